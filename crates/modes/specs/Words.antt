@@ -1,0 +1,18 @@
+-- A word is a number, and the modes that it holds are its binary digits.
+use mathlib.Core.Bool.{Bool}
+use Prim.Native.Nat.{ℕ, _/_, _%_, _^_}
+use lib.Dec.{eqb}
+use Rattle.modes.specs.Bools.{_⊕_}
+
+-- a set of modes: which modes are in it
+abbrev pub Modes : Type 0
+Modes = ℕ → Bool
+
+-- is mode p occupied in the word w
+unfoldable pub bit : ℕ → Modes
+bit w p = eqb (w / 2 ^ p % 2) 1
+
+-- in one of the two sets, and not in both
+infixl 40 _△_
+unfoldable pub _△_ : Modes → Modes → Modes
+(u △ v) p = u p ⊕ v p
