@@ -1,6 +1,6 @@
 -- A word is a number, and the modes that it holds are its binary digits.
-use mathlib.Core.Bool.{Bool}
-use Prim.Native.Nat.{ℕ, _/_, _%_, _^_}
+use mathlib.Core.Bool.{Bool, true, _&&_}
+use Prim.Native.Nat.{ℕ, zero, suc, _/_, _%_, _^_}
 use lib.Dec.{eqb}
 use Rattle.modes.specs.Bools.{_⊕_}
 
@@ -16,3 +16,8 @@ bit w p = eqb (w / 2 ^ p % 2) 1
 infixl 40 _△_
 unfoldable pub _△_ : Modes → Modes → Modes
 (u △ v) p = u p ⊕ v p
+
+-- f holds at every mode below k
+unfoldable pub each : ℕ → (ℕ → Bool) → Bool
+each zero f = true
+each (suc p) f = each p f && f p

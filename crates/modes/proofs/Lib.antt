@@ -1,0 +1,5 @@
+pub mod Bools
+pub mod Sets
+pub mod Digits
+pub mod Counts
+pub mod Lowest
