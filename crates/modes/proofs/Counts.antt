@@ -2,7 +2,7 @@
 use mathlib.Core.Path.{_≡_, refl, sym, ap, ap₂, _∙_}
 use mathlib.Core.Bool.{Bool, true, false, cond, _&&_, true≢false}
 use Prim.Native.Nat.{ℕ, zero, suc, _+_, _-_, _*_, _/_, _%_, _^_, _≤_, _<_, zero-le}
-use native.Mathlib.Nat.{mod-lt, zero-lt-suc, add-comm, add-zero, mod-one, suc-mul, mul-suc, add-mul-div-right}
+use native.Mathlib.Nat.{lt-suc-self, mod-lt, zero-lt-suc, add-comm, add-zero, mod-one, suc-mul, mul-suc, add-mul-div-right}
 use native.Mathlib.Numerals.{add-one, one-add}
 use native.Mathlib.Omega.{arith}
 use lib.Dec.{eqb}
@@ -65,6 +65,23 @@ exchanges-le m (suc p) u v h = go (v p) (exchanges-le m p u v (omega arith)) (co
     go : (b : Bool) → exchanges p u v ≤ p * m → count p u ≤ p → exchanges p u v + cond b (count p u) 0 ≤ suc p * m
     go true q l = omega (arith, suc-mul p m)
     go false q l = omega (arith, suc-mul p m)
+
+-- counts add up as their modes do
+pub count-sum : (k : ℕ) (u v x y : Modes) → ((p : ℕ) → p < k → cond (u p) 1 0 + cond (v p) 1 0 ≡ cond (x p) 1 0 + cond (y p) 1 0)
+    → count k u + count k v ≡ count k x + count k y
+unfolding count
+count-sum zero u v x y h = refl
+count-sum (suc p) u v x y h = omega (arith, count-sum p u v x y (λ i l. h i (omega arith)), h p (lt-suc-self p))
+
+pub count-mono : (k : ℕ) (u v : Modes) → ((p : ℕ) → u p ≡ true → v p ≡ true) → count k u ≤ count k v
+unfolding count
+count-mono zero u v h = zero-le
+count-mono (suc p) u v h = go (u p) (v p) (h p) (count-mono p u v h)
+  where
+    go : (a b : Bool) → (a ≡ true → b ≡ true) → count p u ≤ count p v → count p u + cond a 1 0 ≤ count p v + cond b 1 0
+    go true true q l = omega arith
+    go true false q l = absurd (true≢false (sym (q refl)))
+    go false b q l = omega arith
 
 -- ---- the machine's count
 

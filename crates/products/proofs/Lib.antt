@@ -1,0 +1,3 @@
+pub mod ClosedForm
+pub mod Applied
+pub mod Applying

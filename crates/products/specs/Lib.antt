@@ -1,0 +1,3 @@
+pub mod PhaseRule
+pub mod Operators
+pub mod Apply
