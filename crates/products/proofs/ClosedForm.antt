@@ -13,7 +13,7 @@ use Rattle.modes.specs.Words.{Modes, bit, each}
 use Rattle.modes.specs.Counts.{odd, oddExchanges}
 use Rattle.modes.proofs.Bools.{⊕-false, ⊕-assoc, ⊕-comm}
 use Rattle.modes.proofs.Sets.{odd-exchanges-△-l, odd-exchanges-none, each-cong, each-and}
-use Rattle.modes.proofs.Digits.{lt-or-ge, bit-xor, bits-xor, bit-pow, bit-above, ext}
+use Rattle.modes.proofs.Digits.{lt-or-ge, bit-xor, bits-xor, bit-pow, bit-above, bit-none, ext}
 use Rattle.products.specs.PhaseRule.{Outcome, gone, went, creating, annihilating, ladder, ladders, term}
 
 -- ---- the closed form
@@ -26,6 +26,12 @@ ladders-gone needs (suc p) at = go (ladders-gone needs p at) (bit at p)
     go : ladders needs p at gone ≡ gone → (b : Bool) → ladders needs p at (cond b gone gone) ≡ gone
     go ih true = ih
     go ih false = ih
+
+-- a word without modes has no ladders
+pub ladders-none : (needs : Bool) (k : ℕ) (o : Outcome) → ladders needs k 0 o ≡ o
+unfolding ladders
+ladders-none needs zero o = refl
+ladders-none needs (suc p) o = rw (bit-none p) (ladders-none needs p o)
 
 -- the word with the modes of `at` below k flipped
 unfoldable pub flips : ℕ → ℕ → ℕ → ℕ
@@ -120,9 +126,13 @@ acts-is cre ann w =
     sym (each-and 64 (λ p. not (bit ann p) || bit w p) (λ p. not (bit cre p) || not (bit (bitXor w ann) p)))
     ∙ each-cong 64 _ _ (λ p l. ap (λ (x : Bool). (not (bit ann p) || bit w p) && (not (bit cre p) || not x)) (bit-xor w ann p))
 
+pub term-none : (o : Outcome) → term 0 0 o ≡ o
+unfolding term
+term-none o = ladders-none creating 64 (ladders annihilating 64 0 o) ∙ ladders-none annihilating 64 o
+
 pub term-gone : (cre ann : ℕ) → term cre ann gone ≡ gone
 unfolding term
-term-gone cre ann = ap (ladders false 64 cre) (ladders-gone true 64 ann) ∙ ladders-gone false 64 cre
+term-gone cre ann = ap (ladders creating 64 cre) (ladders-gone annihilating 64 ann) ∙ ladders-gone creating 64 cre
 
 pub term-is : (cre ann w : ℕ) (s : Bool) → cre < 2 ^ 64 → ann < 2 ^ 64
     → term cre ann (went w s) ≡ cond (acts cre ann w) (went (bitXor (bitXor w ann) cre) (s ⊕ signOf cre ann w)) gone

@@ -1,3 +1,4 @@
 pub mod ClosedForm
 pub mod Applied
 pub mod Applying
+pub mod Unique

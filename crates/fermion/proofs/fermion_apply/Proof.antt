@@ -1,0 +1,32 @@
+-- `fermion::fermion_apply` meets its contract: each case of the result goes to the answer's numbers.
+use mathlib.Core.Path.{sym, ap, _∙_}
+use borrow.Author.Needs.{needs}
+use Rattle.fermion.specs.Face.{values, applyAnswer}
+use Rattle.fermion.proofs.fermion_apply.Statement.{statement}
+use Rattle.fermion.proofs.fermion_apply.Tie as tie
+
+apply-op-ket-u64-requires : tie.Need-apply-op-ket-u64-requires
+apply-op-ket-u64-requires c κs = search needs
+
+enum-known-word : tie.Need-enum-known-word
+enum-known-word c = search needs
+
+minus-requires : tie.Need-minus-requires
+minus-requires c κs = search needs
+
+enum-told : tie.Need-enum-told
+enum-told c = search needs
+
+returns : tie.Need-returns
+returns c =
+    let known = c .before .before .before .word .given in
+    ap (values 1 (known .0 .0)) (c .before .minus .ensures)
+    ∙ ap applyAnswer (sym (known .1) ∙ c .before .before .before .before .before .apply-op-ket-u64 .ensures)
+
+returns-2 : tie.Need-returns-2
+returns-2 c = let told = c .before .enum-told .given in ap applyAnswer (sym (told .1) ∙ c .before .before .before .apply-op-ket-u64 .ensures)
+
+pub fermion-apply-spec : {M : Type 1} → statement M
+fermion-apply-spec =
+    tie.close
+    (tie.spec apply-op-ket-u64-requires enum-known-word minus-requires enum-told returns returns-2)

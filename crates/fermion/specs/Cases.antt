@@ -1,0 +1,49 @@
+-- The numbered cases as one list: what the library's definitions answer on small inputs. In braces, {creations|annihilations}.
+use mathlib.Core.Path.{_≡_}
+use mathlib.Core.Bool.{Bool, true, false}
+use mathlib.Core.List.{List, [], _∷_}
+use Prim.Native.Nat.{ℕ, _-_, _^_}
+use Rattle.products.specs.Apply.{applied}
+use Rattle.products.specs.declared.ApplyResult.{ApplyResult}
+use Rattle.products.specs.declared.ApplyResult.the-variants.{Applied, Zero}
+
+abbrev plus : ℕ → ApplyResult
+plus w = Applied w (record { 0 = false })
+
+abbrev minus : ℕ → ApplyResult
+minus w = Applied w (record { 0 = true })
+
+pub data Case : Type 0 where
+  -- {cre|ann} on a ket gives this
+  gives : (cre ann ket : ℕ) → ApplyResult → Case
+  -- {cre|ann} on any ket gives that ket, plus
+  keeps : (cre ann : ℕ) → Case
+
+abbrev pub Holds : Case → Type 0
+Holds (gives cre ann ket r) = applied cre ann ket ≡ r
+Holds (keeps cre ann) = (ket : ℕ) → applied cre ann ket ≡ plus ket
+
+-- a case with its number
+pub record Numbered : Type 0 where
+  pub number : ℕ
+  pub case : Case
+
+infix 20 _▸_
+abbrev _▸_ : ℕ → Case → Numbered
+n ▸ c = record { number = n; case = c }
+
+abbrev pub cases : List Numbered
+cases =
+    (9 ▸ keeps 0 0)
+    ∷ (10 ▸ gives 4 1 3 (minus 6))
+    ∷ (11 ▸ gives 0 4 3 Zero)
+    ∷ (11 ▸ gives 1 0 1 Zero)
+    ∷ (11 ▸ gives 1 1 1 (plus 1))
+    ∷ (12 ▸ gives (2 ^ 63) 0 (2 ^ 63 - 1) (minus (2 ^ 64 - 1)))
+    ∷ (13 ▸ gives 0 3 3 (minus 0))
+    ∷ (13 ▸ gives 3 0 0 (plus 3))
+    ∷ []
+
+abbrev pub AllHold : List Numbered → Type 0
+AllHold [] = Unit {0}
+AllHold (c ∷ l) = Holds (c .case) × AllHold l
