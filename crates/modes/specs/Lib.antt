@@ -2,3 +2,4 @@ pub mod Bools
 pub mod Words
 pub mod Counts
 pub mod Spaces
+pub mod Answers

@@ -1,4 +1,4 @@
-// Signs, mode spaces and terms: the values that every other crate is made of.
+// Signs, mode spaces, terms and refusals: the values that every other crate is made of.
 ghost use mathlib.Core.Path.{_≡_};
 ghost use mathlib.Core.Bool.{true, false};
 ghost use Prim.Native.Nat.{_^_};
@@ -6,6 +6,7 @@ ghost use lib.Dec.{ltb};
 ghost use Rattle.modes.specs.Bools.{_⊕_};
 ghost use Rattle.modes.specs.Counts.{parity};
 ghost use Rattle.modes.specs.Spaces.{spaceOf};
+ghost use Rattle.modes.specs.Answers.{refused};
 
 // A sign, plus or minus; the bool is true for minus.
 pub struct Sign(pub bool);
@@ -75,4 +76,39 @@ pub struct Term {
     pub cre: u64,
     pub ann: u64,
     pub coeff: i64,
+}
+
+// Why a call was refused: a number, an operand and a place. The number is 0 where it was not.
+pub struct Refusal {
+    pub number: u64,
+    pub operand: u64,
+    pub place: u64,
+}
+
+impl Refusal {
+    pub const NONE: Refusal = Refusal {
+        number: 0,
+        operand: 0,
+        place: 0,
+    };
+}
+
+// What a call that fills a lent output comes back with: the length in bytes of what stands there, and the rows or
+// branches. Both are 0 after a refusal.
+pub struct Written {
+    pub refusal: Refusal,
+    pub len: usize,
+    pub branches: u64,
+}
+
+impl Written {
+    pub fn refused(refusal: Refusal) -> Written
+        ensures { λ r. ⌜ r ≡ refused refusal ⌝ }
+    {
+        Written {
+            refusal,
+            len: 0,
+            branches: 0,
+        }
+    }
 }

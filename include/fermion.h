@@ -1,0 +1,32 @@
+/* The C face of the library: what a worker written in C, C++, Rust, Python or Julia links against.
+ *
+ * Built by `rt staticlib fermion` into target/staticlib/libfermion.a. A slice is a pointer and then a length in
+ * elements; a null pointer is never passed (an empty slice passes any aligned non-null pointer with length 0). The
+ * records of one call may be the same memory (A times A); nothing that is lent for writing overlaps anything else.
+ *
+ * Every function fills `answer` whole, on success and on refusal:
+ *   answer[0]  number of the refusal, 0 where the call is not refused
+ *   answer[1]  operand of the refusal, else 0
+ *   answer[2]  place of the refusal, else 0
+ *   answer[3]  length in bytes of what stands in `out`, 0 where there is no output or a refusal
+ *   answer[4]  branches (product family) or rows (mul_cmpnts), 0 elsewhere and on refusal
+ *   answer[5], answer[6], answer[7]  the call's own values, named below; 0 where unused and on refusal
+ * A signed value stands there as its two's complement.
+ */
+#ifndef FERMION_H
+#define FERMION_H
+#include <stddef.h>
+#include <stdint.h>
+
+#ifdef __cplusplus
+extern "C" {
+#endif
+
+/* One term {cre|ann} on one occupation word. [5] 1 applied, 0 Zero; [6] the new word and [7] 1 where the sign is
+ * minus, both 0 for Zero. Never refuses. */
+void fermion_apply(uint64_t cre, uint64_t ann, uint64_t ket, uint64_t answer[8]);
+
+#ifdef __cplusplus
+}
+#endif
+#endif

@@ -1,0 +1,89 @@
+#!/usr/bin/env python3
+"""What the repository promises of itself: statements for public functions, one C face, definitions only in specs/, true documents."""
+import glob
+import os
+import re
+import subprocess
+
+ROOT = os.path.dirname(os.path.dirname(os.path.abspath(__file__)))
+os.chdir(ROOT)
+FUNCTION = re.compile(r"^\s*(?:#\[no_mangle\]\s*)?pub\s+(?:extern\s+\"C\"\s+)?fn\s+(\w+)", re.M)
+
+
+def text(path):
+    with open(path, encoding="utf-8") as file:
+        return file.read()
+
+
+def sources(kind):
+    return sorted(glob.glob(f"crates/*/{kind}/**/*", recursive=True))
+
+
+def public_functions():
+    """(path, name, the text from the name to the body) of every `pub fn`."""
+    for path in sources("src"):
+        if not path.endswith(".rt"):
+            continue
+        code = text(path)
+        for found in FUNCTION.finditer(code):
+            body = re.search(r"^\s*\{\s*$", code[found.start():], re.M)
+            yield path, found.group(1), code[found.start():found.start() + body.start()]
+
+
+def each_has_a_statement():
+    return [f"{path} {name}: no ensures" for path, name, head in public_functions() if "ensures" not in head]
+
+
+def each_is_in_promises():
+    told = text("docs/PROMISES.md")
+    return [f"{path} {name}" for path, name, _ in public_functions() if f"`{name}" not in told and f"::{name}" not in told]
+
+
+def the_face_refuses_by_itself():
+    return [f"{path} {name}: has a requires" for path, name, head in public_functions()
+            if path.startswith("crates/fermion/") and "requires" in head]
+
+
+def the_header_is_the_face():
+    declared = set(re.findall(r"void (fermion_\w+)\(", text("include/fermion.h")))
+    exported = {name for path, name, _ in public_functions() if path.startswith("crates/fermion/")}
+    return [f"{name}: in the header or in the crate, and not in both" for name in sorted(declared ^ exported)]
+
+
+def specs_hold_definitions_only():
+    return [path for path in sources("specs") if path.endswith(".antt") and re.search(r"\brefl\b|\bomega\b|\brw \(", text(path))]
+
+
+def edits_say_what_they_are():
+    return [path for path in glob.glob("crates/*/must-fail/*.edit") if text(path).startswith(("file:", "old:", "new:"))]
+
+
+def the_readme_names_the_toolchain():
+    version = subprocess.run(["rt", "version"], capture_output=True, text=True).stdout.strip()
+    return [] if version and version in text("README.md") else [f"README.md does not have {version!r}"]
+
+
+def layout_is_the_formatters():
+    run = subprocess.run(["rt", "fmt", "--check"], capture_output=True, text=True)
+    return [] if run.returncode == 0 else [run.stdout + run.stderr]
+
+
+TESTS = [
+    each_has_a_statement, each_is_in_promises, the_face_refuses_by_itself, the_header_is_the_face,
+    specs_hold_definitions_only, edits_say_what_they_are, the_readme_names_the_toolchain, layout_is_the_formatters,
+]
+
+
+def main():
+    failed = 0
+    for test in TESTS:
+        faults = test()
+        failed += bool(faults)
+        print(f"{test.__name__.replace('_', ' ')}: {'ok' if not faults else 'NOT SO'}")
+        for fault in faults:
+            print(f"  {fault}")
+    print(f"{len(TESTS) - failed} passed, {failed} failed")
+    raise SystemExit(1 if failed else 0)
+
+
+main()
