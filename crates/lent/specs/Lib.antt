@@ -1,3 +1,4 @@
 pub mod Bytes
 pub mod Every
 pub mod Rows
+pub mod Outputs
