@@ -79,8 +79,8 @@ def row_words(left, right):
     if is_empty(left, right):
         return []
     (l_cre, l_ann), (r_cre, r_ann) = left, right
-    shared = common(left, right)
-    rows = [(l_cre | r_cre & ~shared, r_ann | l_ann & ~shared)]
+    both = common(left, right)
+    rows = [(l_cre | r_cre & ~both, r_ann | l_ann & ~both)]
     for p in bits(branching(left, right)):
         rows = [row for cre, ann in rows for row in ((cre, ann), (cre | 1 << p, ann | 1 << p))]
     return rows

@@ -1,0 +1,4 @@
+//! Shim: module list.
+
+pub mod springs;
+pub mod state_springs;

@@ -1,0 +1,6 @@
+//! Shim: module list.
+
+pub mod mode;
+pub mod operator;
+pub mod state;
+pub mod traits;

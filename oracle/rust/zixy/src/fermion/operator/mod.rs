@@ -1,0 +1,5 @@
+//! Shim: module list.
+
+pub mod general;
+pub mod lincomb;
+pub mod normal;

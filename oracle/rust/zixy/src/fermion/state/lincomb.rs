@@ -1,0 +1,2 @@
+//! Shim: the one function that `mat_elem.rs` takes from here.
+pub use crate::utils::vector_ops::vdot;

@@ -1,0 +1,4 @@
+//! Shim: module list.
+
+pub mod arith;
+pub mod vector_ops;
