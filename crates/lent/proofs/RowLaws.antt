@@ -45,6 +45,11 @@ module _ (p q a b c : List ℕ) (o : ℕ) (e : length p ≡ o) (la : length a �
   third = let s : p ++ ((a ++ (b ++ c)) ++ q) ≡ (p ++ (a ++ b)) ++ (c ++ q) = simp append-assoc in
       rw s (num-at (p ++ (a ++ b)) c q (o + 16) 8 (simp (length-append, e, la, lb)) lc)
 
+pub rows-append : (a b : List Term) → rowsBytes (a ++ b) ≡ rowsBytes a ++ rowsBytes b
+unfolding rowsBytes
+rows-append [] b = refl
+rows-append (t ∷ a) b = ap (λ (l : List ℕ). rowBytes t ++ l) (rows-append a b) ∙ sym (append-assoc (rowBytes t) (rowsBytes a) (rowsBytes b))
+
 pub row-at : (p q : List ℕ) (o : ℕ) (t : Term) → length p ≡ o → Fit t → rowAt (p ++ (rowBytes t ++ q)) o ≡ t
 unfolding rowAt rowBytes
 row-at p q o t e f =

@@ -85,3 +85,8 @@ high-fits x h k = rw (high x h k, less-one) (record { sfits = omega arith })
 
 pub high-is : (x : ℕ) → 2 ^ 63 ≤ x → x < 2 ^ 64 → toZ w64 (ofZ w64 (negsuc 0 -ℤ toZ w64 (18446744073709551615 - x))) ≡ toZ w64 x
 high-is x h k = toZ-ofZ (high-fits x h k) ∙ rw (high x h k, less-one, le-ltb x (2 ^ 63) h) (ap negsuc (omega arith))
+
+-- below 2^63 from zero
+pub abs-fits : (z : ℤ) → natAbs z < 2 ^ 63 → SFits w64 z
+abs-fits (pos n) h = record { sfits = h }
+abs-fits (negsuc n) h = record { sfits = omega arith }

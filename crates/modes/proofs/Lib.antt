@@ -3,3 +3,4 @@ pub mod Sets
 pub mod Digits
 pub mod Counts
 pub mod Lowest
+pub mod Single

@@ -14,7 +14,8 @@ use Rattle.modes.proofs.Digits.{lt-or-ge, bit-xor, bit-and, bit-not, bit-above,
 use Rattle.modes.proofs.Counts.{parity-add, exchanges-odd}
 use Rattle.products.specs.Apply.{resultOf, applied}
 use Rattle.products.specs.declared.ApplyResult.the-variants.{Applied, Zero}
-use Rattle.products.proofs.ClosedForm.{ready, signOf, term-is}
+use Rattle.products.specs.Product.{signOf}
+use Rattle.products.proofs.ClosedForm.{ready, term-is}
 
 -- ---- the tests, at any width k
 

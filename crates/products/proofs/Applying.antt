@@ -17,7 +17,8 @@ use Rattle.products.specs.PhaseRule.{Outcome, gone, went}
 use Rattle.products.specs.Apply.{resultOf, applied, Ready}
 use Rattle.products.specs.declared.ApplyResult.{ApplyResult}
 use Rattle.products.specs.declared.ApplyResult.the-variants.{Applied, Zero}
-use Rattle.products.proofs.ClosedForm.{fit, acts, acts-is, signOf, term-is}
+use Rattle.products.specs.Product.{signOf}
+use Rattle.products.proofs.ClosedForm.{fit, acts, acts-is, term-is}
 
 -- ---- ready, mode by mode
 

@@ -15,6 +15,7 @@ use Rattle.modes.proofs.Bools.{⊕-false, ⊕-assoc, ⊕-comm}
 use Rattle.modes.proofs.Sets.{odd-exchanges-△-l, odd-exchanges-none, each-cong, each-and}
 use Rattle.modes.proofs.Digits.{lt-or-ge, bit-xor, bits-xor, bit-pow, bit-above, bit-none, ext}
 use Rattle.products.specs.PhaseRule.{Outcome, gone, went, creating, annihilating, ladder, ladders, term}
+use Rattle.products.specs.Product.{signOf}
 
 -- ---- the closed form
 
@@ -113,9 +114,6 @@ flips-is k at w h = ext _ _ (λ i. bit-flips k at w i ∙ ap (λ (x : Bool). bit
 -- a term acts where the word has every annihilated mode and, with those flipped, no created mode
 abbrev pub acts : ℕ → ℕ → ℕ → Bool
 acts cre ann w = ready true 64 ann w && ready false 64 cre (bitXor w ann)
-
-abbrev pub signOf : ℕ → ℕ → ℕ → Bool
-signOf cre ann w = oddExchanges 64 (bit w) (bit ann) ⊕ oddExchanges 64 (bit (bitXor w ann)) (bit cre)
 
 -- a term acts mode by mode: an annihilated mode is occupied, and a created one is empty once the annihilations are done
 abbrev pub fit : Bool → Bool → Bool → Bool

@@ -1,3 +1,5 @@
 pub mod PhaseRule
 pub mod Operators
 pub mod Apply
+pub mod Product
+pub mod Walk

@@ -1,0 +1,27 @@
+-- The sign of one term after another, by bilinearity.
+use mathlib.Core.Path.{_≡_, refl, sym, ap, ap₂, _∙_}
+use mathlib.Core.Bool.{Bool}
+use Prim.Native.Nat.{ℕ}
+use Rattle.modes.specs.Bools.{_⊕_}
+use Rattle.modes.specs.Words.{Modes, _△_}
+use Rattle.modes.specs.Counts.{oddExchanges}
+use Rattle.modes.proofs.Bools.{parity-sum}
+use Rattle.modes.proofs.Sets.{odd-exchanges-△-l, odd-exchanges-△-r}
+
+-- one term on k: all that depends on k is `oddExchanges k` of the modes that flip
+pub one-sign : (n : ℕ) (k a c : Modes) → oddExchanges n k a ⊕ oddExchanges n (k △ a) c ≡ oddExchanges n a c ⊕ oddExchanges n k (a △ c)
+one-sign n k a c = simp (odd-exchanges-△-l, odd-exchanges-△-r, parity-sum)
+
+-- the sign that a product has before its row is put in order
+abbrev pub joined : ℕ → Modes → Modes → Modes → Modes → Bool
+joined n lc la rc ra = oddExchanges n ra rc ⊕ (oddExchanges n (ra △ rc) la ⊕ oddExchanges n ((ra △ rc) △ la) lc)
+
+pub two-signs : (n : ℕ) (k lc la rc ra : Modes)
+    → (oddExchanges n k ra ⊕ oddExchanges n (k △ ra) rc) ⊕ (oddExchanges n ((k △ ra) △ rc) la ⊕ oddExchanges n (((k △ ra) △ rc) △ la) lc)
+    ≡ joined n lc la rc ra ⊕ oddExchanges n k (((ra △ rc) △ la) △ lc)
+two-signs n k lc la rc ra = simp (odd-exchanges-△-l, odd-exchanges-△-r, parity-sum)
+
+-- a row's coefficient with the row's own sign: the odd count o of modes that it keeps is all that tells two rows apart
+pub row-sign : (n : ℕ) (o x : Bool) (k a c : Modes)
+    → ((o ⊕ x) ⊕ oddExchanges n a c) ⊕ (oddExchanges n k a ⊕ oddExchanges n (k △ a) c) ≡ o ⊕ (x ⊕ oddExchanges n k (a △ c))
+row-sign n o x k a c = simp (odd-exchanges-△-l, odd-exchanges-△-r, parity-sum)
