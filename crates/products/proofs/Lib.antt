@@ -6,3 +6,5 @@ pub mod Signs
 pub mod Sums
 pub mod ProductActs
 pub mod Walks
+pub mod Choices
+pub mod WalkRows

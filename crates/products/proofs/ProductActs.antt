@@ -6,7 +6,7 @@ use mathlib.Core.Logic.{_⊎_, inl, inr}
 use Prim.Native.Nat.{ℕ, _^_, _≤_, _<_, zero-le}
 use lib.Dec.{eqb, lit<}
 use lib.Bits.{bitAnd, bitOr, bitXor, or-lt, xor-lt, and-lt}
-use lib.IntN.{ℤ, pos, negℤ, _+ℤ_, negℤ-negℤ}
+use lib.IntN.{ℤ, pos, negℤ, _+ℤ_}
 use Rattle.modes.specs.Bools.{_⊕_, same}
 use Rattle.modes.specs.Words.{Modes, bit, _△_, each}
 use Rattle.modes.specs.Counts.{odd, oddExchanges}
@@ -18,7 +18,7 @@ use Rattle.products.specs.PhaseRule.{Outcome, gone, went, term}
 use Rattle.products.specs.Operators.{signed, adds, part, element}
 use Rattle.products.specs.Product.{fine, branch, signOf, choices, notEmpty, branching, creAt, annAt, minusAt, rowTimes, rowsTimes}
 use Rattle.products.proofs.ClosedForm.{fit, acts, acts-is, term-is, term-gone}
-use Rattle.products.proofs.Signs.{joined, two-signs, row-sign}
+use Rattle.products.proofs.Signs.{signed-zero, signed-signed, joined, two-signs, row-sign}
 use Rattle.products.proofs.Sums.{total, total-cong, Part, weigh, alternate, from, from-all}
 
 -- ---- mode by mode
@@ -58,18 +58,6 @@ flip-digit : (lc la rc ra s : Bool) → not s || branch lc la rc ra ≡ true →
 unfolding _⊕_
 flip-digit lc la rc ra s h f =
     of-same _ _ (mp _ _ (mp _ _ (at5 (λ lc la rc ra s. imp (not s || branch lc la rc ra) (imp (fine lc la rc ra) (same ((annD la rc ra || s) ⊕ (creD lc la rc || s)) (((ra ⊕ rc) ⊕ la) ⊕ lc)))) refl lc la rc ra s) h) f)
-
--- ---- signs
-
-signed-zero : (s : Bool) → signed s (pos 0) ≡ pos 0
-signed-zero true = refl
-signed-zero false = refl
-
-signed-signed : (s t : Bool) (z : ℤ) → signed s (signed t z) ≡ signed (s ⊕ t) z
-unfolding _⊕_
-signed-signed true true z = negℤ-negℤ z
-signed-signed true false z = refl
-signed-signed false t z = refl
 
 -- the element of a list of terms is the sum of their parts
 pub element-map : (bra ket : ℕ) (f : ℕ → Term) (l : List ℕ) → element bra ket (map f l) ≡ total (λ S. part bra ket (f S)) l

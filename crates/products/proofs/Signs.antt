@@ -1,12 +1,24 @@
 -- The sign of one term after another, by bilinearity.
 use mathlib.Core.Path.{_≡_, refl, sym, ap, ap₂, _∙_}
-use mathlib.Core.Bool.{Bool}
+use mathlib.Core.Bool.{Bool, true, false}
 use Prim.Native.Nat.{ℕ}
+use lib.IntN.{ℤ, pos, negℤ-negℤ}
 use Rattle.modes.specs.Bools.{_⊕_}
 use Rattle.modes.specs.Words.{Modes, _△_}
 use Rattle.modes.specs.Counts.{oddExchanges}
 use Rattle.modes.proofs.Bools.{parity-sum}
 use Rattle.modes.proofs.Sets.{odd-exchanges-△-l, odd-exchanges-△-r}
+use Rattle.products.specs.Operators.{signed}
+
+pub signed-zero : (s : Bool) → signed s (pos 0) ≡ pos 0
+signed-zero true = refl
+signed-zero false = refl
+
+pub signed-signed : (s t : Bool) (z : ℤ) → signed s (signed t z) ≡ signed (s ⊕ t) z
+unfolding _⊕_
+signed-signed true true z = negℤ-negℤ z
+signed-signed true false z = refl
+signed-signed false t z = refl
 
 -- one term on k: all that depends on k is `oddExchanges k` of the modes that flip
 pub one-sign : (n : ℕ) (k a c : Modes) → oddExchanges n k a ⊕ oddExchanges n (k △ a) c ≡ oddExchanges n a c ⊕ oddExchanges n k (a △ c)
@@ -25,3 +37,7 @@ two-signs n k lc la rc ra = simp (odd-exchanges-△-l, odd-exchanges-△-r, pari
 pub row-sign : (n : ℕ) (o x : Bool) (k a c : Modes)
     → ((o ⊕ x) ⊕ oddExchanges n a c) ⊕ (oddExchanges n k a ⊕ oddExchanges n (k △ a) c) ≡ o ⊕ (x ⊕ oddExchanges n k (a △ c))
 row-sign n o x k a c = simp (odd-exchanges-△-l, odd-exchanges-△-r, parity-sum)
+
+-- a row that keeps the modes d too
+pub more-sign : (n : ℕ) (a c d : Modes) → oddExchanges n d d ≡ false → oddExchanges n (a △ d) (c △ d) ≡ oddExchanges n a c ⊕ (oddExchanges n d c ⊕ oddExchanges n a d)
+more-sign n a c d e = simp (odd-exchanges-△-l, odd-exchanges-△-r, e, parity-sum)

@@ -61,13 +61,13 @@ or-true true = refl
 or-true false = refl
 
 -- one mode more
-added : (S p i : ℕ) → bit (bitXor S (2 ^ p)) i ≡ bit S i ⊕ eqb i p
+pub added : (S p i : ℕ) → bit (bitXor S (2 ^ p)) i ≡ bit S i ⊕ eqb i p
 added S p i = bit-xor S (2 ^ p) i ∙ ap (λ (x : Bool). bit S i ⊕ x) (bit-pow p i)
 
-part-later : {p : ℕ} {B : Modes} {S : ℕ} → Part p B S → Part (suc p) B S
+pub part-later : {p : ℕ} {B : Modes} {S : ℕ} → Part p B S → Part (suc p) B S
 part-later h = record { inside = h .inside; above = λ i l. h .above i (omega arith); small = h .small }
 
-part-more : {p : ℕ} {B : Modes} {S : ℕ} → Part p B S → p < 64 → B p ≡ true → Part (suc p) B (bitXor S (2 ^ p))
+pub part-more : {p : ℕ} {B : Modes} {S : ℕ} → Part p B S → p < 64 → B p ≡ true → Part (suc p) B (bitXor S (2 ^ p))
 part-more {p} {B} {S} h l e = record { inside = λ i. inn i (eqb i p) refl; above = λ i l. added S p i ∙ ap₂ (λ (x y : Bool). x ⊕ y) (h .above i (omega arith)) (ne-eqb i p (λ e. omega arith)) ∙ ⊕-false false; small = xor-lt 64 S (2 ^ p) (h .small) (pow-lt l) }
   where
     inn : (i : ℕ) (b : Bool) → eqb i p ≡ b → not (bit (bitXor S (2 ^ p)) i) || B i ≡ true

@@ -1,4 +1,5 @@
 -- One product L R of two terms: when it is empty, which common modes branch, its rows in order, and what `mul_cmpnts` answers and leaves.
+use mathlib.Core.Path.{_≡_}
 use mathlib.Core.Bool.{Bool, true, false, not, cond, _&&_, _||_}
 use mathlib.Core.List.{List, [], _∷_, _++_, map}
 use Prim.Native.Nat.{ℕ, zero, suc, _*_, _^_}
@@ -26,6 +27,10 @@ branch lc la rc ra = la && rc && not lc && not ra
 -- The sign that the ladders of {c|a} pick up along the word w: annihilations on w, creations on w with the annihilated modes changed.
 abbrev pub signOf : ℕ → ℕ → ℕ → Bool
 signOf c a w = oddExchanges 64 (bit w) (bit a) ⊕ oddExchanges 64 (bit (bitXor w a)) (bit c)
+
+-- Two terms of different words.
+abbrev pub Other : Term → Term → Type 0
+Other t u = t .cre ≡ u .cre → t .ann ≡ u .ann → ⊥
 
 -- The sets S with more or fewer of B's modes from p on, of which n are left. The lowest mode is the most significant choice, without it before with it.
 unfoldable pub choices : ℕ → ℕ → Modes → ℕ → List ℕ
