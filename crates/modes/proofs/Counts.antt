@@ -2,7 +2,7 @@
 use mathlib.Core.Path.{_≡_, refl, sym, ap, ap₂, _∙_}
 use mathlib.Core.Bool.{Bool, true, false, cond, _&&_, true≢false}
 use Prim.Native.Nat.{ℕ, zero, suc, _+_, _-_, _*_, _/_, _%_, _^_, _≤_, _<_, zero-le}
-use native.Mathlib.Nat.{lt-suc-self, mod-lt, zero-lt-suc, add-comm, add-zero, mod-one, suc-mul, mul-suc, add-mul-div-right}
+use native.Mathlib.Nat.{lt-suc-self, mod-lt, mod-eq-of-lt, zero-lt-suc, add-comm, add-zero, mod-one, suc-mul, mul-suc, add-mul-div-right}
 use native.Mathlib.Numerals.{add-one, one-add}
 use native.Mathlib.Omega.{arith}
 use lib.Dec.{eqb}
@@ -97,6 +97,13 @@ count-ones (suc p) w =
     ∙ ones-cat p (w / 2 ^ p % 2) (w % 2 ^ p) (mod-lt w (pow-pos p))
     ∙ add-comm (ones (w / 2 ^ p % 2)) (ones (w % 2 ^ p))
     ∙ ap₂ (λ (x y : ℕ). x + y) (count-ones p w) (digit-ones (w / 2 ^ p % 2) (mod-lt (w / 2 ^ p) (zero-lt-suc 1)))
+
+-- all bits of a word of k bits
+pub ones-below-width : (k w : ℕ) → w < 2 ^ k → ones w ≡ count k (bit w)
+ones-below-width k w h = ap ones (sym (mod-eq-of-lt h)) ∙ count-ones k w
+
+pub ones-word : (w : ℕ) → w < 2 ^ 64 → ones w ≡ count 64 (bit w)
+ones-word = ones-below-width 64
 
 -- ---- words with no mode in common
 

@@ -94,7 +94,7 @@ without k w a hw ha e = ext _ _ (λ p. bit-and w ((2 ^ k - 1) - a) p ∙ at p (l
 
 module _ (cre ann ket : ℕ) (hc : cre < 2 ^ 64) (ha : ann < 2 ^ 64) (hk : ket < 2 ^ 64) where
   -- the word after the annihilations, as the code has it
-  abbrev pub after : ℕ
+  abbrev after : ℕ
   after = bitAnd ket ((2 ^ 64 - 1) - ann)
 
   pub zero-not-held : (bitAnd ket ann ≡ ann → ⊥) → Zero ≡ applied cre ann ket

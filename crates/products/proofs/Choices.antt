@@ -1,7 +1,7 @@
 -- The sets of branching modes: how many there are, that no two are the same, and that the walk finds them by the lowest mode.
 use mathlib.Core.Path.{_≡_, refl, sym, ap, ap₂, _∙_, subst}
 use mathlib.Core.Bool.{Bool, true, false, cond, true≢false}
-use mathlib.Core.List.{List, [], _∷_, _++_}
+use mathlib.Core.List.{List, [], _∷_, _++_, map}
 use mathlib.Core.Logic.{_⊎_, inl, inr}
 use Prim.Native.Nat.{ℕ, zero, suc, _+_, _-_, _*_, _^_, _≤_, _<_, zero-le}
 use native.Mathlib.Nat.{pow-suc, zero-add, add-zero, add-suc, suc-add, add-assoc, lt-suc-self, le-refl, eq-or-lt-of-le}
@@ -51,6 +51,10 @@ count-zero B = refl
 
 pub choices-number : (B : Modes) → length (choices 64 0 B 0) ≡ 2 ^ count 64 B
 choices-number B = choices-length 64 0 B 0 ∙ ap (λ (k : ℕ). 2 ^ k) (sym (zero-add (countFrom 64 0 B)) ∙ ap (λ (x : ℕ). x + countFrom 64 0 B) (sym (count-zero B)) ∙ count-from 64 0 B)
+
+pub length-map : {A B : Type 0} (f : A → B) (l : List A) → length (map f l) ≡ length l
+length-map f [] = refl
+length-map f (x ∷ l) = ap suc (length-map f l)
 
 -- ---- each is a part of B, and no two are the same
 

@@ -8,3 +8,4 @@ pub mod ProductActs
 pub mod Walks
 pub mod Choices
 pub mod WalkRows
+pub mod Multiplied

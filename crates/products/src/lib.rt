@@ -28,7 +28,7 @@ pub enum ApplyResult {
 // The number of set bits of `word` below each set bit of `at`, summed together: the exchanges that it takes to
 // insert or remove, one at a time, the ladder operators of `at` against the occupation `word`.
 pub fn count_before_each_set_bit(word: u64, at: u64) -> u32
-    ensures { λ r. ⌜ r ≡ exchanges 64 (bit word) (bit at) ⌝ }
+    ensures { λ r. ⌜ (r ≡ exchanges 64 (bit word) (bit at)) × (r ≤ 4096) ⌝ }
 {
     let mut rest = at;
     let mut count: u32 = 0;
@@ -109,4 +109,94 @@ pub fn do_branch(out: &mut [u8], at: usize, left: u64, row: Term) -> usize
     let high = keep(row, left - less);
     let next = do_branch(out, at, less, row);
     do_branch(out, next, less, high)
+}
+
+// The words of one product L R.
+pub struct ProductHelper {
+    pub l_cre: u64,
+    pub l_ann: u64,
+    pub r_cre: u64,
+    pub r_ann: u64,
+}
+
+impl ProductHelper {
+    // Is the product empty: is a mode in both creation words but not in L's annihilations, or in both annihilation
+    // words but not in R's creations?
+    pub fn destroys(self) -> bool
+        ensures { λ r. ⌜ r ≡ not (notEmpty (self .«l_cre») (self .«l_ann») (self .«r_cre») (self .«r_ann»)) ⌝ }
+    {
+        self.l_cre & self.r_cre & !self.l_ann != 0 || self.l_ann & self.r_ann & !self.r_cre != 0
+    }
+
+    // The common modes that branch: those in neither L's creations nor R's annihilations.
+    pub fn bifurcations(self) -> u64
+        ensures { λ r. ⌜ ((p : ℕ) → bit r p ≡ branching (self .«l_cre») (self .«l_ann») (self .«r_cre») (self .«r_ann») p) ⌝ }
+    {
+        self.l_ann & self.r_cre & !self.l_cre & !self.r_ann
+    }
+
+    // The row that keeps no branching mode, times `coeff`.
+    pub fn lowest_row(self, coeff: i64) -> Term
+        requires { ⌜ natAbs coeff < 2 ^ 63 ⌝ }
+        ensures { λ r. ⌜ (r ≡ rowTimes (self .«l_cre») (self .«l_ann») (self .«r_cre») (self .«r_ann») coeff 0) × (natAbs (r .coeff) < 2 ^ 63) ⌝ }
+    {
+        let common = self.l_ann & self.r_cre;
+        let cre = self.l_cre | (self.r_cre ^ common);
+        let ann = self.r_ann | (self.l_ann ^ common);
+        let after_r = self.r_ann ^ self.r_cre;
+        let exchange = count_before_each_set_bit(self.r_ann, self.r_cre)
+            + count_before_each_set_bit(after_r, self.l_ann)
+            + count_before_each_set_bit(after_r ^ self.l_ann, self.l_cre)
+            + count_before_each_set_bit(ann, cre);
+        let signed = signed_coeff(Sign::from_exchanges(exchange), coeff);
+        Term {
+            cre,
+            ann,
+            coeff: signed,
+        }
+    }
+}
+
+// Do 2^n_bif rows fit in `room` bytes? A slice is shorter than 2^63 bytes, and 24 times 2^59 is not.
+fn rows_fit(n_bif: u32, room: usize) -> bool
+    requires { ⌜ room < 2 ^ 63 ⌝ }
+    ensures { λ r. ⌜ (r ≡ leb (24 * 2 ^ «n_bif») room) ⌝ }
+{
+    if 58 < n_bif {
+        return false;
+    }
+    (24usize << n_bif) <= room
+}
+
+// The rows of the product L R, 24 bytes each, in order, and zeros past them. Refused with 7 if they do not fit.
+pub fn mul_cmpnts(l_cre: u64, l_ann: u64, r_cre: u64, r_ann: u64, out: &mut [u8]) -> Written
+    ensures { λ r. ⌜ Gives (multiplied «l_cre» «l_ann» «r_cre» «r_ann» (length (now (out .entry)))) r (now (out .exit)) ⌝ }
+{
+    let helper = ProductHelper {
+        l_cre,
+        l_ann,
+        r_cre,
+        r_ann,
+    };
+    if helper.destroys() {
+        lent::wipe(out);
+        return Written::refused(Refusal::NONE);
+    }
+    let left = helper.bifurcations();
+    let n_bif = u64::count_ones(left);
+    if !rows_fit(n_bif, out.len()) {
+        lent::wipe(out);
+        return Written::refused(Refusal {
+            number: 7,
+            operand: 0,
+            place: 0,
+        });
+    }
+    let end = do_branch(out, 0, left, helper.lowest_row(1));
+    lent::wipe_from(out, end);
+    Written {
+        refusal: Refusal::NONE,
+        len: end,
+        branches: 1u64 << n_bif,
+    }
 }

@@ -1,10 +1,6 @@
 -- `products::apply_op_ket_u64` meets its contract: its two tests and its two counts are those of the closed form.
-use native.Mathlib.Nat.{le-refl}
-use native.Mathlib.Omega.{arith}
 use borrow.Author.Needs.{needs}
-use Rattle.modes.specs.Words.{bit}
-use Rattle.modes.proofs.Counts.{exchanges-le}
-use Rattle.products.proofs.Applied.{after, zero-not-held, zero-occupied, applied-is}
+use Rattle.products.proofs.Applied.{zero-not-held, zero-occupied, applied-is}
 use Rattle.products.proofs.apply_op_ket_u64.Statement.{statement}
 use Rattle.products.proofs.apply_op_ket_u64.Tie as tie
 
@@ -25,12 +21,7 @@ count-before-each-set-bit-requires-2 : tie.Need-count-before-each-set-bit-requir
 count-before-each-set-bit-requires-2 c κs = search needs
 
 add-exponent : tie.Need-add-exponent
-add-exponent c =
-    let s = c .before .before .before .before in
-    let k = after (s .args .cre) (s .args .ann) (s .args .ket) (s .fits .cre .fits) (s .fits .ann .fits) (s .fits .ket .fits) in
-    record {
-      fits = omega (arith, exchanges-le 64 64 (bit (s .args .ket)) (bit (s .args .ann)) (le-refl 64), exchanges-le 64 64 (bit k) (bit (s .args .cre)) (le-refl 64), c .before .count-before-each-set-bit .ensures, c .count-before-each-set-bit2 .ensures);
-    }
+add-exponent c = search needs
 
 from-exchanges-requires : tie.Need-from-exchanges-requires
 from-exchanges-requires c κs = search needs
@@ -42,7 +33,7 @@ returns-3 c =
     let two = c .before .count-before-each-set-bit2 in
     applied-is (s .args .cre) (s .args .ann) (s .args .ket) (s .fits .cre .fits) (s .fits .ann .fits) (s .fits .ket .fits)
     (c .before .before .before .before .if1 .left) (c .before .before .before .if2 .left) (one .result) (two .result) (c .from-exchanges .result)
-    (one .ensures) (two .ensures) (c .from-exchanges .ensures)
+    (one .ensures .0) (two .ensures .0) (c .from-exchanges .ensures)
 
 pub apply-op-ket-u64-spec : {M : Type 1} → statement M
 apply-op-ket-u64-spec =

@@ -1,0 +1,209 @@
+-- What the code's words and counts for one product say, and the three ways in which `mul_cmpnts` answers.
+use mathlib.Core.Path.{_≡_, refl, sym, ap, ap₂, _∙_}
+use mathlib.Core.Bool.{Bool, true, false, not, cond, _&&_, and-false, true≢false}
+use mathlib.Core.List.{List, [], _∷_, _++_, map}
+use mathlib.Core.Logic.{_⊎_, inl, inr}
+use Prim.Native.Nat.{ℕ, _+_, _-_, _*_, _%_, _^_, _≤_, _<_}
+use native.Mathlib.Nat.{mod-eq-of-lt, one-mul, mul-one, zero-add}
+use native.Mathlib.Omega.{arith}
+use lib.Bits.{bitAnd, bitOr, bitXor, or-zero-r}
+use lib.Count.{ones}
+use lib.Dec.{ltb, leb}
+use lib.IntN.{ℤ, pos}
+use lib.ListN.{length, take, drop}
+use lib.Pow.{pow-mono}
+use lib.Seq.{take-at}
+use borrow.Author.Tests.{lt-ltb, le-ltb, leb-true, leb-false}
+use Rattle.modes.specs.Bools.{_⊕_}
+use Rattle.modes.specs.Words.{Modes, bit, _△_, each}
+use Rattle.modes.specs.Counts.{parity, count, exchanges, odd, oddExchanges}
+use Rattle.modes.specs.Answers.{refusal, refused, none, wrote}
+use Rattle.modes.specs.declared.Written.{Written}
+use Rattle.modes.specs.declared.Term.{Term}
+use Rattle.modes.proofs.Bools.{false-⊕, ⊕-assoc}
+use Rattle.modes.proofs.Sets.{each-all, each-at, odd-none}
+use Rattle.modes.proofs.Digits.{lt-or-ge, bit-and, bit-not, bit-above, bit-none, bits-xor, ext}
+use Rattle.modes.proofs.Counts.{parity-add, exchanges-odd, ones-word}
+use Rattle.lent.specs.Bytes.{put, zeros}
+use Rattle.lent.specs.Rows.{rowsBytes}
+use Rattle.lent.specs.Outputs.{Output, refusedOutput, filledOutput, Gives}
+use Rattle.lent.proofs.RowLaws.{length-rows}
+use Rattle.products.specs.Product.{fine, branch, choices, notEmpty, branching, creAt, annAt, minusAt, rowTimes, rowsTimes, noRoom, multiplied}
+use Rattle.products.specs.Walk.{walk}
+use Rattle.products.proofs.Signs.{joined}
+use Rattle.products.proofs.ProductActs.{minus-is}
+use Rattle.products.proofs.WalkRows.{walk-rows, branching-number}
+use Rattle.products.proofs.Choices.{length-map, choices-number}
+
+-- `a & b & !c`, mode by mode
+and-not : (a b c p : ℕ) → a < 2 ^ 64 → c < 2 ^ 64 → bit (bitAnd (bitAnd a b) ((2 ^ 64 - 1) - c)) p ≡ bit a p && bit b p && not (bit c p)
+and-not a b c p ha hc = bit-and (bitAnd a b) ((2 ^ 64 - 1) - c) p ∙ ap (λ (x : Bool). x && bit ((2 ^ 64 - 1) - c) p) (bit-and a b p) ∙ at (lt-or-ge p 64)
+  where
+    at : (p < 64) ⊎ (64 ≤ p) → bit a p && bit b p && bit ((2 ^ 64 - 1) - c) p ≡ bit a p && bit b p && not (bit c p)
+    at (inl l) = ap (λ (x : Bool). bit a p && bit b p && x) (bit-not 64 c p hc l)
+    at (inr l) = rw (bit-above 64 a p ha l)
+
+-- the code's count of branching modes
+pub bifurcation-number : (Lc La Rc Ra w : ℕ) → w < 2 ^ 64 → ((p : ℕ) → bit w p ≡ branching Lc La Rc Ra p) → ones w ≡ count 64 (branching Lc La Rc Ra)
+bifurcation-number Lc La Rc Ra w h is = ones-word w h ∙ branching-number Lc La Rc Ra w h is
+
+-- rows that fit a slice are few enough for a shift
+pub few-rows : (n room : ℕ) → 24 * 2 ^ n ≤ room → room < 2 ^ 63 → (n < 64) × ((1 * 2 ^ n) % 2 ^ 64 ≡ 2 ^ n)
+few-rows n room h l = (go (lt-or-ge n 64), ap (λ (x : ℕ). x % 2 ^ 64) (one-mul (2 ^ n)) ∙ mod-eq-of-lt (omega arith))
+  where
+    go : (n < 64) ⊎ (64 ≤ n) → n < 64
+    go (inl m) = m
+    go (inr m) = absurd (omega (arith, pow-mono m))
+
+-- a slice of bytes is shorter than 2^63
+pub short-slice : (n : ℕ) → n * 1 < 2 ^ 63 → n < 2 ^ 63
+short-slice n h = rw mul-one at h
+
+-- room for the rows of a word of branching modes, and their end
+pub room-for : (w room : ℕ) → w < 2 ^ 64 → 24 * 2 ^ ones w ≤ room → 0 + 24 * 2 ^ count 64 (bit w) ≤ room
+room-for w room h fit = rw (zero-add (24 * 2 ^ count 64 (bit w)), ← ones-word w h) fit
+
+pub end-inside : (w room end len : ℕ) → w < 2 ^ 64 → 24 * 2 ^ ones w ≤ room → end ≡ 0 + 24 * 2 ^ count 64 (bit w) → len ≡ room → end ≤ len
+end-inside w room end len h fit e k = rw (e, k) (room-for w room h fit)
+
+-- ---- the lowest row
+
+pub lowest-sign : (Lc La Rc Ra x y u v : ℕ)
+    → x ≡ exchanges 64 (bit Ra) (bit Rc) → y ≡ exchanges 64 (bit (bitXor Ra Rc)) (bit La) → u ≡ exchanges 64 (bit (bitXor (bitXor Ra Rc) La)) (bit Lc)
+    → v ≡ exchanges 64 (bit (bitOr Ra (bitXor La (bitAnd La Rc)))) (bit (bitOr Lc (bitXor Rc (bitAnd La Rc))))
+    → parity (x + y + u + v) ≡ minusAt Lc La Rc Ra 0
+lowest-sign Lc La Rc Ra x y u v p q r s =
+    parity-add (x + y + u) v
+    ∙ ap₂ (λ (a b : Bool). a ⊕ b)
+        (parity-add (x + y) u ∙ ap₂ (λ (a b : Bool). a ⊕ b) (parity-add x y ∙ ap₂ (λ (a b : Bool). a ⊕ b) (odd-of _ _ p) (odd-of _ _ q ∙ ap (λ (w : Modes). oddExchanges 64 w (bit La)) (bits-xor Ra Rc)))
+          (odd-of _ _ r ∙ ap (λ (w : Modes). oddExchanges 64 w (bit Lc)) (bits-xor (bitXor Ra Rc) La ∙ ap (λ (w : Modes). w △ bit La) (bits-xor Ra Rc)))
+        ∙ ⊕-assoc _ _ _)
+        (odd-of _ _ s ∙ ap₂ (λ (a c : ℕ). oddExchanges 64 (bit a) (bit c)) (sym (or-zero-r _)) (sym (or-zero-r _)))
+    ∙ sym (minus-is Lc La Rc Ra 0 ∙ ap (λ (o : Bool). (o ⊕ joined 64 (bit Lc) (bit La) (bit Rc) (bit Ra)) ⊕ oddExchanges 64 (bit (annAt Lc La Rc Ra 0)) (bit (creAt Lc La Rc Ra 0))) (odd-none 64 (bit 0) (λ i l. bit-none i))
+      ∙ ap (λ (o : Bool). o ⊕ oddExchanges 64 (bit (annAt Lc La Rc Ra 0)) (bit (creAt Lc La Rc Ra 0))) (false-⊕ _))
+  where
+    odd-of : {n : ℕ} (a b : Modes) → n ≡ exchanges 64 a b → parity n ≡ oddExchanges 64 a b
+    odd-of a b e = ap parity e ∙ exchanges-odd 64 a b
+
+module _ (Lc La Rc Ra : ℕ) (hLc : Lc < 2 ^ 64) (hLa : La < 2 ^ 64) (hRc : Rc < 2 ^ 64) (hRa : Ra < 2 ^ 64) where
+  -- ---- the two words of `destroys`
+
+  abbrev created : ℕ
+  created = bitAnd (bitAnd Lc Rc) ((2 ^ 64 - 1) - La)
+
+  abbrev annihilated : ℕ
+  annihilated = bitAnd (bitAnd La Ra) ((2 ^ 64 - 1) - Rc)
+
+  no-mode : (w p : ℕ) (b : Bool) → w ≡ 0 → bit w p ≡ b → not b ≡ true
+  no-mode w p b e h = ap not (sym h ∙ ap (λ (x : ℕ). bit x p) e ∙ bit-none p)
+
+  pub full-where : created ≡ 0 → annihilated ≡ 0 → notEmpty Lc La Rc Ra ≡ true
+  full-where e f =
+      each-all 64 _ (λ p l. ap₂ (λ (x y : Bool). x && y)
+        (no-mode created p _ e (and-not Lc Rc La p hLc hLa)) (no-mode annihilated p _ f (and-not La Ra Rc p hLa hRc)))
+
+  -- a product that is not empty has no such mode
+  none-where : (w : ℕ) (f : ℕ → Bool) → ((p : ℕ) → bit w p ≡ f p) → ((p : ℕ) → 64 ≤ p → f p ≡ false) → ((p : ℕ) → p < 64 → f p ≡ false) → w ≡ 0
+  none-where w f is high low = ext _ _ (λ p. is p ∙ at p (lt-or-ge p 64) ∙ sym (bit-none p))
+    where
+      at : (p : ℕ) → (p < 64) ⊎ (64 ≤ p) → f p ≡ false
+      at p (inl l) = low p l
+      at p (inr l) = high p l
+
+  not-both : (x y : Bool) → not x && not y ≡ true → (x ≡ false) × (y ≡ false)
+  not-both true y e = absurd (true≢false (sym e))
+  not-both false true e = absurd (true≢false (sym e))
+  not-both false false e = (refl, refl)
+
+  by-full : notEmpty Lc La Rc Ra ≡ true → (created ≡ 0) × (annihilated ≡ 0)
+  by-full e =
+      (none-where created _ (λ p. and-not Lc Rc La p hLc hLa) (λ p l. rw (bit-above 64 Lc p hLc l)) (λ p l. at p l .0),
+      none-where annihilated _ (λ p. and-not La Ra Rc p hLa hRc) (λ p l. rw (bit-above 64 La p hLa l)) (λ p l. at p l .1))
+    where
+      at : (p : ℕ) → p < 64 → (bit Lc p && bit Rc p && not (bit La p) ≡ false) × (bit La p && bit Ra p && not (bit Rc p) ≡ false)
+      at p l = not-both (bit Lc p && bit Rc p && not (bit La p)) (bit La p && bit Ra p && not (bit Rc p)) (each-at 64 _ e p l)
+
+  empty-where : ((created ≡ 0) × (annihilated ≡ 0) → ⊥) → notEmpty Lc La Rc Ra ≡ false
+  empty-where n = go (notEmpty Lc La Rc Ra) refl
+    where
+      go : (b : Bool) → notEmpty Lc La Rc Ra ≡ b → notEmpty Lc La Rc Ra ≡ false
+      go true e = absurd (n (by-full e))
+      go false e = e
+
+  pub empty-created : (created ≡ 0 → ⊥) → notEmpty Lc La Rc Ra ≡ false
+  empty-created n = empty-where (λ h. n (h .0))
+
+  pub empty-annihilated : (annihilated ≡ 0 → ⊥) → notEmpty Lc La Rc Ra ≡ false
+  empty-annihilated n = empty-where (λ h. n (h .1))
+
+  -- ---- the word of `bifurcations`
+
+  pub bifurcating : (p : ℕ) → bit (bitAnd (bitAnd (bitAnd La Rc) ((2 ^ 64 - 1) - Lc)) ((2 ^ 64 - 1) - Ra)) p ≡ branching Lc La Rc Ra p
+  bifurcating p =
+      bit-and (bitAnd (bitAnd La Rc) ((2 ^ 64 - 1) - Lc)) ((2 ^ 64 - 1) - Ra) p
+      ∙ ap (λ (x : Bool). x && bit ((2 ^ 64 - 1) - Ra) p) (and-not La Rc Lc p hLa hLc) ∙ at (lt-or-ge p 64)
+    where
+      at : (p < 64) ⊎ (64 ≤ p) → bit La p && bit Rc p && not (bit Lc p) && bit ((2 ^ 64 - 1) - Ra) p ≡ branching Lc La Rc Ra p
+      at (inl l) = ap (λ (x : Bool). bit La p && bit Rc p && not (bit Lc p) && x) (bit-not 64 Ra p hRa l)
+      at (inr l) = rw (bit-above 64 La p hLa l)
+
+  -- ---- the three answers
+
+  rows-none : (z : ℤ) → notEmpty Lc La Rc Ra ≡ false → rowsTimes Lc La Rc Ra z ≡ []
+  unfolding rowsTimes
+  rows-none z e = rw e
+
+  pub rows-full : (z : ℤ) → notEmpty Lc La Rc Ra ≡ true → rowsTimes Lc La Rc Ra z ≡ map (rowTimes Lc La Rc Ra z) (choices 64 0 (branching Lc La Rc Ra) 0)
+  unfolding rowsTimes
+  rows-full z e = rw e
+
+  pub rows-number : (z : ℤ) → notEmpty Lc La Rc Ra ≡ true → length (rowsTimes Lc La Rc Ra z) ≡ 2 ^ count 64 (branching Lc La Rc Ra)
+  rows-number z e = ap length (rows-full z e) ∙ length-map (rowTimes Lc La Rc Ra z) (choices 64 0 (branching Lc La Rc Ra) 0) ∙ choices-number (branching Lc La Rc Ra)
+
+  -- empty: no rows, and the output all zero
+  pub gives-nothing : (room : ℕ) (after : List ℕ) → notEmpty Lc La Rc Ra ≡ false → after ≡ zeros room → Gives (multiplied Lc La Rc Ra room) (refused none) after
+  unfolding multiplied rowsBytes
+  gives-nothing room after e h =
+      let all : room ≡ room - 0 = omega arith in
+      record { answer = rw (rows-none (pos 1) e, e); bytes = h ∙ rw (rows-none (pos 1) e, e) (ap zeros all) }
+
+  -- not empty, and no room
+  pub gives-seven : (room : ℕ) (after : List ℕ) → notEmpty Lc La Rc Ra ≡ true → room < 24 * 2 ^ count 64 (branching Lc La Rc Ra) → after ≡ zeros room
+      → Gives (multiplied Lc La Rc Ra room) (refused (refusal 7 0 0)) after
+  unfolding multiplied
+  gives-seven room after e l h = record { answer = rw (e, lt-ltb room _ l); bytes = h ∙ rw (e, lt-ltb room _ l) }
+
+  -- not empty, and room: the walk's rows, put at the front of what the output held, and zeros past them
+  module _ (l : List ℕ) (full : notEmpty Lc La Rc Ra ≡ true) (w : ℕ) (h : w < 2 ^ 64) (is : (p : ℕ) → bit w p ≡ branching Lc La Rc Ra p)
+      (fit : 24 * 2 ^ ones w ≤ length l) (short : length l < 2 ^ 63) where
+    rows : List Term
+    rows = rowsTimes Lc La Rc Ra (pos 1)
+
+    number : ones w ≡ count 64 (branching Lc La Rc Ra)
+    number = bifurcation-number Lc La Rc Ra w h is
+
+    size : length (rowsBytes rows) ≡ 24 * 2 ^ count 64 (branching Lc La Rc Ra)
+    unfolding rows
+    size = length-rows rows ∙ ap (λ (n : ℕ). 24 * n) (rows-number (pos 1) full)
+
+    room : 24 * 2 ^ count 64 (branching Lc La Rc Ra) ≤ length l
+    room = rw (← number) fit
+
+    walked : (t : Term) → t ≡ rowTimes Lc La Rc Ra (pos 1) 0 → walk (count 64 (bit w)) w t ≡ rows
+    unfolding rows
+    walked t e = ap (walk (count 64 (bit w)) w) e ∙ walk-rows Lc La Rc Ra w h is (pos 1) ∙ sym (rows-full (pos 1) full)
+
+    pub gives-rows : (t : Term) (end branches : ℕ) (m after : List ℕ)
+        → t ≡ rowTimes Lc La Rc Ra (pos 1) 0 → end ≡ 0 + 24 * 2 ^ count 64 (bit w) → m ≡ put l 0 (rowsBytes (walk (count 64 (bit w)) w t)) → length m ≡ length l
+        → branches ≡ (1 * 2 ^ ones w) % 2 ^ 64 → after ≡ take end m ++ zeros (length m - end)
+        → Gives (multiplied Lc La Rc Ra (length l)) (wrote end branches) after
+    unfolding multiplied put rows
+    gives-rows t end branches m after et ee em el eb ea = record {
+        answer = rw (full, le-ltb (length l) _ room) (ap₂ wrote (at-end ∙ sym size) (eb ∙ few-rows (ones w) (length l) fit short .1 ∙ ap (λ (n : ℕ). 2 ^ n) number ∙ sym (rows-number (pos 1) full)));
+        bytes = ea ∙ rw (full, le-ltb (length l) _ room) (ap₂ (λ (x y : List ℕ). x ++ y)
+          (ap (take end) (em ∙ ap (λ (ts : List Term). put l 0 (rowsBytes ts)) (walked t et)) ∙ take-at (rowsBytes rows) (drop (0 + length (rowsBytes rows)) l) end (size ∙ sym at-end))
+          (ap₂ (λ (n k : ℕ). zeros (n - k)) el (at-end ∙ sym size)));
+      }
+      where
+        at-end : end ≡ 24 * 2 ^ count 64 (branching Lc La Rc Ra)
+        at-end = ee ∙ zero-add _ ∙ ap (λ (n : ℕ). 24 * 2 ^ n) (branching-number Lc La Rc Ra w h is)
