@@ -9,3 +9,4 @@ pub mod Walks
 pub mod Choices
 pub mod WalkRows
 pub mod Multiplied
+pub mod ProductTheorems

@@ -75,12 +75,12 @@ pub lowest-sign : (Lc La Rc Ra x y u v : ℕ)
 lowest-sign Lc La Rc Ra x y u v p q r s =
     parity-add (x + y + u) v
     ∙ ap₂ (λ (a b : Bool). a ⊕ b)
-        (parity-add (x + y) u ∙ ap₂ (λ (a b : Bool). a ⊕ b) (parity-add x y ∙ ap₂ (λ (a b : Bool). a ⊕ b) (odd-of _ _ p) (odd-of _ _ q ∙ ap (λ (w : Modes). oddExchanges 64 w (bit La)) (bits-xor Ra Rc)))
-          (odd-of _ _ r ∙ ap (λ (w : Modes). oddExchanges 64 w (bit Lc)) (bits-xor (bitXor Ra Rc) La ∙ ap (λ (w : Modes). w △ bit La) (bits-xor Ra Rc)))
-        ∙ ⊕-assoc _ _ _)
-        (odd-of _ _ s ∙ ap₂ (λ (a c : ℕ). oddExchanges 64 (bit a) (bit c)) (sym (or-zero-r _)) (sym (or-zero-r _)))
+    (parity-add (x + y) u ∙ ap₂ (λ (a b : Bool). a ⊕ b) (parity-add x y ∙ ap₂ (λ (a b : Bool). a ⊕ b) (odd-of _ _ p) (odd-of _ _ q ∙ ap (λ (w : Modes). oddExchanges 64 w (bit La)) (bits-xor Ra Rc)))
+    (odd-of _ _ r ∙ ap (λ (w : Modes). oddExchanges 64 w (bit Lc)) (bits-xor (bitXor Ra Rc) La ∙ ap (λ (w : Modes). w △ bit La) (bits-xor Ra Rc)))
+    ∙ ⊕-assoc _ _ _)
+    (odd-of _ _ s ∙ ap₂ (λ (a c : ℕ). oddExchanges 64 (bit a) (bit c)) (sym (or-zero-r _)) (sym (or-zero-r _)))
     ∙ sym (minus-is Lc La Rc Ra 0 ∙ ap (λ (o : Bool). (o ⊕ joined 64 (bit Lc) (bit La) (bit Rc) (bit Ra)) ⊕ oddExchanges 64 (bit (annAt Lc La Rc Ra 0)) (bit (creAt Lc La Rc Ra 0))) (odd-none 64 (bit 0) (λ i l. bit-none i))
-      ∙ ap (λ (o : Bool). o ⊕ oddExchanges 64 (bit (annAt Lc La Rc Ra 0)) (bit (creAt Lc La Rc Ra 0))) (false-⊕ _))
+    ∙ ap (λ (o : Bool). o ⊕ oddExchanges 64 (bit (annAt Lc La Rc Ra 0)) (bit (creAt Lc La Rc Ra 0))) (false-⊕ _))
   where
     odd-of : {n : ℕ} (a b : Modes) → n ≡ exchanges 64 a b → parity n ≡ oddExchanges 64 a b
     odd-of a b e = ap parity e ∙ exchanges-odd 64 a b
@@ -100,7 +100,7 @@ module _ (Lc La Rc Ra : ℕ) (hLc : Lc < 2 ^ 64) (hLa : La < 2 ^ 64) (hRc : Rc <
   pub full-where : created ≡ 0 → annihilated ≡ 0 → notEmpty Lc La Rc Ra ≡ true
   full-where e f =
       each-all 64 _ (λ p l. ap₂ (λ (x y : Bool). x && y)
-        (no-mode created p _ e (and-not Lc Rc La p hLc hLa)) (no-mode annihilated p _ f (and-not La Ra Rc p hLa hRc)))
+      (no-mode created p _ e (and-not Lc Rc La p hLc hLa)) (no-mode annihilated p _ f (and-not La Ra Rc p hLa hRc)))
 
   -- a product that is not empty has no such mode
   none-where : (w : ℕ) (f : ℕ → Bool) → ((p : ℕ) → bit w p ≡ f p) → ((p : ℕ) → 64 ≤ p → f p ≡ false) → ((p : ℕ) → p < 64 → f p ≡ false) → w ≡ 0
@@ -116,9 +116,10 @@ module _ (Lc La Rc Ra : ℕ) (hLc : Lc < 2 ^ 64) (hLa : La < 2 ^ 64) (hRc : Rc <
   not-both false false e = (refl, refl)
 
   by-full : notEmpty Lc La Rc Ra ≡ true → (created ≡ 0) × (annihilated ≡ 0)
-  by-full e =
-      (none-where created _ (λ p. and-not Lc Rc La p hLc hLa) (λ p l. rw (bit-above 64 Lc p hLc l)) (λ p l. at p l .0),
-      none-where annihilated _ (λ p. and-not La Ra Rc p hLa hRc) (λ p l. rw (bit-above 64 La p hLa l)) (λ p l. at p l .1))
+  by-full e = (
+    none-where created _ (λ p. and-not Lc Rc La p hLc hLa) (λ p l. rw (bit-above 64 Lc p hLc l)) (λ p l. at p l .0),
+    none-where annihilated _ (λ p. and-not La Ra Rc p hLa hRc) (λ p l. rw (bit-above 64 La p hLa l)) (λ p l. at p l .1),
+  )
     where
       at : (p : ℕ) → p < 64 → (bit Lc p && bit Rc p && not (bit La p) ≡ false) × (bit La p && bit Ra p && not (bit Rc p) ≡ false)
       at p l = not-both (bit Lc p && bit Rc p && not (bit La p)) (bit La p && bit Ra p && not (bit Rc p)) (each-at 64 _ e p l)
@@ -149,7 +150,7 @@ module _ (Lc La Rc Ra : ℕ) (hLc : Lc < 2 ^ 64) (hLa : La < 2 ^ 64) (hRc : Rc <
 
   -- ---- the three answers
 
-  rows-none : (z : ℤ) → notEmpty Lc La Rc Ra ≡ false → rowsTimes Lc La Rc Ra z ≡ []
+  pub rows-none : (z : ℤ) → notEmpty Lc La Rc Ra ≡ false → rowsTimes Lc La Rc Ra z ≡ []
   unfolding rowsTimes
   rows-none z e = rw e
 
@@ -199,11 +200,11 @@ module _ (Lc La Rc Ra : ℕ) (hLc : Lc < 2 ^ 64) (hLa : La < 2 ^ 64) (hRc : Rc <
         → Gives (multiplied Lc La Rc Ra (length l)) (wrote end branches) after
     unfolding multiplied put rows
     gives-rows t end branches m after et ee em el eb ea = record {
-        answer = rw (full, le-ltb (length l) _ room) (ap₂ wrote (at-end ∙ sym size) (eb ∙ few-rows (ones w) (length l) fit short .1 ∙ ap (λ (n : ℕ). 2 ^ n) number ∙ sym (rows-number (pos 1) full)));
-        bytes = ea ∙ rw (full, le-ltb (length l) _ room) (ap₂ (λ (x y : List ℕ). x ++ y)
+      answer = rw (full, le-ltb (length l) _ room) (ap₂ wrote (at-end ∙ sym size) (eb ∙ few-rows (ones w) (length l) fit short .1 ∙ ap (λ (n : ℕ). 2 ^ n) number ∙ sym (rows-number (pos 1) full)));
+      bytes = ea ∙ rw (full, le-ltb (length l) _ room) (ap₂ (λ (x y : List ℕ). x ++ y)
           (ap (take end) (em ∙ ap (λ (ts : List Term). put l 0 (rowsBytes ts)) (walked t et)) ∙ take-at (rowsBytes rows) (drop (0 + length (rowsBytes rows)) l) end (size ∙ sym at-end))
           (ap₂ (λ (n k : ℕ). zeros (n - k)) el (at-end ∙ sym size)));
-      }
+    }
       where
         at-end : end ≡ 24 * 2 ^ count 64 (branching Lc La Rc Ra)
         at-end = ee ∙ zero-add _ ∙ ap (λ (n : ℕ). 24 * 2 ^ n) (branching-number Lc La Rc Ra w h is)

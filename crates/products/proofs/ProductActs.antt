@@ -30,10 +30,10 @@ creD lc la rc = lc || (rc ⊕ (la && rc))
 abbrev pub annD : Bool → Bool → Bool → Bool
 annD la rc ra = ra || (la ⊕ (la && rc))
 
-abbrev imp : Bool → Bool → Bool
+abbrev pub imp : Bool → Bool → Bool
 imp a b = not a || b
 
-mp : (a b : Bool) → imp a b ≡ true → a ≡ true → b ≡ true
+pub mp : (a b : Bool) → imp a b ≡ true → a ≡ true → b ≡ true
 mp true b h e = h
 mp false true h e = refl
 mp false false h e = e

@@ -63,9 +63,11 @@ lowest-row-requires c κs = search needs
 
 do-branch-requires : tie.Need-do-branch-requires
 do-branch-requires c κs =
-    let s = c .before .before .before .before .before .before .before .before in
-    (room-for (c .before .before .before .before .bifurcations .result) (length (s .args .out .now)) (c .before .before .before .before .bifurcations .ok)
-    (leb-true (24 * 2 ^ ones (c .before .before .before .before .bifurcations .result)) (length (s .args .out .now)) (sym (c .before .before .before .rows-fit .ensures) ∙ not-false _ (c .before .before .if2 .left))), c .lowest-row .ensures .1)
+    let s = c .before .before .before .before .before .before .before .before in (
+      room-for (c .before .before .before .before .bifurcations .result) (length (s .args .out .now)) (c .before .before .before .before .bifurcations .ok)
+          (leb-true (24 * 2 ^ ones (c .before .before .before .before .bifurcations .result)) (length (s .args .out .now)) (sym (c .before .before .before .rows-fit .ensures) ∙ not-false _ (c .before .before .if2 .left))),
+      c .lowest-row .ensures .1,
+    )
 
 wipe-from-requires : tie.Need-wipe-from-requires
 wipe-from-requires c κs =
@@ -77,14 +79,14 @@ cast-t29 : tie.Need-cast-t29
 cast-t29 c =
     let s = c .before .before .before .before .before .before .before .before .before .before .before .before .before .before .before in
     let few : ones (c .before .before .before .before .before .before .before .before .before .before .before .bifurcations .result) < 64 =
-        few-rows (ones (c .before .before .before .before .before .before .before .before .before .before .before .bifurcations .result)) (length (s .args .out .now)) (leb-true (24 * 2 ^ ones (c .before .before .before .before .before .before .before .before .before .before .before .bifurcations .result)) (length (s .args .out .now)) (sym (c .before .before .before .before .before .before .before .before .before .before .rows-fit .ensures) ∙ not-false _ (c .before .before .before .before .before .before .before .before .before .if2 .left))) (short-slice (length (s .args .out .now)) (s .good .1 .1 .1 .1 .0 .1)) .0 in
+    few-rows (ones (c .before .before .before .before .before .before .before .before .before .before .before .bifurcations .result)) (length (s .args .out .now)) (leb-true (24 * 2 ^ ones (c .before .before .before .before .before .before .before .before .before .before .before .bifurcations .result)) (length (s .args .out .now)) (sym (c .before .before .before .before .before .before .before .before .before .before .rows-fit .ensures) ∙ not-false _ (c .before .before .before .before .before .before .before .before .before .if2 .left))) (short-slice (length (s .args .out .now)) (s .good .1 .1 .1 .1 .0 .1)) .0 in
     record { fits = lt-trans few (lit< tt) }
 
 shl-t30 : tie.Need-shl-t30
 shl-t30 c =
     let s = c .before .before .before .before .before .before .before .before .before .before .before .before .before .before .before in
     let few : ones (c .before .before .before .before .before .before .before .before .before .before .before .bifurcations .result) < 64 =
-        few-rows (ones (c .before .before .before .before .before .before .before .before .before .before .before .bifurcations .result)) (length (s .args .out .now)) (leb-true (24 * 2 ^ ones (c .before .before .before .before .before .before .before .before .before .before .before .bifurcations .result)) (length (s .args .out .now)) (sym (c .before .before .before .before .before .before .before .before .before .before .rows-fit .ensures) ∙ not-false _ (c .before .before .before .before .before .before .before .before .before .if2 .left))) (short-slice (length (s .args .out .now)) (s .good .1 .1 .1 .1 .0 .1)) .0 in
+    few-rows (ones (c .before .before .before .before .before .before .before .before .before .before .before .bifurcations .result)) (length (s .args .out .now)) (leb-true (24 * 2 ^ ones (c .before .before .before .before .before .before .before .before .before .before .before .bifurcations .result)) (length (s .args .out .now)) (sym (c .before .before .before .before .before .before .before .before .before .before .rows-fit .ensures) ∙ not-false _ (c .before .before .before .before .before .before .before .before .before .if2 .left))) (short-slice (length (s .args .out .now)) (s .good .1 .1 .1 .1 .0 .1)) .0 in
     few
 
 same-length-3 : tie.Need-same-length-3

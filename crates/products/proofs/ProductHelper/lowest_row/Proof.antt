@@ -45,11 +45,11 @@ returns c =
     let s = c .before .before .before .before .before .before .before .before .before .before .before .before .before in
     let small : SFits w64 (c .signed-coeff .result) = record { sfits = c .signed-coeff .ok } in
     let sign = lowest-sign (s .args .self .«l_cre») (s .args .self .«l_ann») (s .args .self .«r_cre») (s .args .self .«r_ann»)
-        (c .before .before .before .before .before .before .count-before-each-set-bit .result) (c .before .before .before .before .before .count-before-each-set-bit2 .result) (c .before .before .before .count-before-each-set-bit3 .result) (c .before .before .count-before-each-set-bit4 .result)
-        (c .before .before .before .before .before .before .count-before-each-set-bit .ensures .0) (c .before .before .before .before .before .count-before-each-set-bit2 .ensures .0) (c .before .before .before .count-before-each-set-bit3 .ensures .0) (c .before .before .count-before-each-set-bit4 .ensures .0) in
+    (c .before .before .before .before .before .before .count-before-each-set-bit .result) (c .before .before .before .before .before .count-before-each-set-bit2 .result) (c .before .before .before .count-before-each-set-bit3 .result) (c .before .before .count-before-each-set-bit4 .result)
+    (c .before .before .before .before .before .before .count-before-each-set-bit .ensures .0) (c .before .before .before .before .before .count-before-each-set-bit2 .ensures .0) (c .before .before .before .count-before-each-set-bit3 .ensures .0) (c .before .before .count-before-each-set-bit4 .ensures .0) in
     let same : toZ w64 (ofZ w64 (c .signed-coeff .result)) ≡ signed (minusAt (s .args .self .«l_cre») (s .args .self .«l_ann») (s .args .self .«r_cre») (s .args .self .«r_ann») 0) (s .args .coeff) =
-        toZ-ofZ small ∙ c .signed-coeff .ensures
-        ∙ ap₂ signed (c .before .from-exchanges .ensures ∙ sign) (toZ-ofZ (s .fits .coeff)) in
+    toZ-ofZ small ∙ c .signed-coeff .ensures
+    ∙ ap₂ signed (c .before .from-exchanges .ensures ∙ sign) (toZ-ofZ (s .fits .coeff)) in
     (term-of (sym (or-zero-r _)) (sym (or-zero-r _)) same, rw (same, abs-signed) (s .pre))
 
 pub lowest-row-spec : {M : Type 1} → statement M

@@ -1,0 +1,149 @@
+-- Theorems on one product, stated of the bytes that `mul_cmpnts` leaves: its rows act as R and then L, there are 2^b of them, and no two have the same words.
+use mathlib.Core.Path.{_≡_, refl, sym, ap, ap₂, _∙_, subst}
+use mathlib.Core.Bool.{Bool, true, false, not, cond, _&&_, _||_, true≢false}
+use mathlib.Core.List.{List, [], _∷_, _++_, map}
+use Prim.Native.Nat.{ℕ, _-_, _*_, _^_, _<_}
+use native.Mathlib.Omega.{arith}
+use lib.Bits.{bitAnd, bitOr, bitXor, or-lt, xor-lt, and-lt}
+use lib.Dec.{ltb, lit<}
+use lib.IntN.{ℤ, pos, natAbs}
+use lib.ListN.{length}
+use Rattle.modes.specs.Bools.{_⊕_, same}
+use Rattle.modes.specs.Words.{Modes, bit}
+use Rattle.modes.specs.Counts.{count}
+use Rattle.modes.specs.Answers.{refusal}
+use Rattle.modes.specs.declared.Written.{Written}
+use Rattle.modes.specs.declared.Term.{Term}
+use Rattle.modes.proofs.Bools.{of-same, at5}
+use Rattle.modes.proofs.Digits.{bit-none, ext}
+use Rattle.lent.specs.Bytes.{zeros}
+use Rattle.lent.specs.Every.{Every, none, more}
+use Rattle.lent.specs.Rows.{rowsBytes, rowsAt, Fit}
+use Rattle.lent.specs.Outputs.{Output, refusedOutput, filledOutput, Gives}
+use Rattle.lent.proofs.RowLaws.{rows-at}
+use Rattle.lent.proofs.SignedNumbers.{abs-fits}
+use Rattle.products.specs.PhaseRule.{went, term}
+use Rattle.products.specs.Operators.{signed, adds, element}
+use Rattle.products.specs.Lists.{Each, Pairwise}
+use Rattle.products.specs.Product.{branch, Other, choices, notEmpty, branching, creAt, annAt, minusAt, rowTimes, rowsTimes, noRoom, multiplied}
+use Rattle.products.proofs.Sums.{Part}
+use Rattle.products.proofs.ProductActs.{imp, mp, creD, bit-cre, product-acts}
+use Rattle.products.proofs.Choices.{each-map, choices-parts, choices-differ}
+use Rattle.products.proofs.Walks.{abs-signed}
+use Rattle.products.proofs.Multiplied.{rows-none, rows-number}
+
+-- ---- from sets of modes to rows
+
+every-map : (P : Term → Type 0) (f : ℕ → Term) (l : List ℕ) → Each (λ S. P (f S)) l → Every P (map f l)
+every-map P f [] h = none
+every-map P f (S ∷ l) h = more (h .0) (every-map P f l (h .1))
+
+each-over : (P : ℕ → Type 0) (Q : Term → Type 0) (f : ℕ → Term) (l : List ℕ) → ((S : ℕ) → P S → Q (f S)) → Each P l → Each Q (map f l)
+each-over P Q f [] g h = tt
+each-over P Q f (S ∷ l) g h = (g S (h .0), each-over P Q f l g (h .1))
+
+-- entries that differ go to rows that differ, where the map keeps apart the sets that have P
+pairwise-over : (P : ℕ → Type 0) (R : ℕ → ℕ → Type 0) (Q : Term → Term → Type 0) (f : ℕ → Term) → ((S T : ℕ) → P S → P T → R S T → Q (f S) (f T)) → (l : List ℕ)
+    → Each P l → Pairwise R l → Pairwise Q (map f l)
+pairwise-over P R Q f g [] p r = tt
+pairwise-over P R Q f g (S ∷ l) p r = (heads l (p .1) (r .0), pairwise-over P R Q f g l (p .1) (r .1))
+  where
+    heads : (m : List ℕ) → Each P m → Each (R S) m → Each (Q (f S)) (map f m)
+    heads [] q s = tt
+    heads (T ∷ m) q s = (g S T (p .0) (q .0) (s .0), heads m (q .1) (s .1))
+
+module _ (Lc La Rc Ra : ℕ) where
+  parts : Each (Part 64 (branching Lc La Rc Ra)) (choices 64 0 (branching Lc La Rc Ra) 0)
+  parts = choices-parts 64 0 (branching Lc La Rc Ra) 0 refl
+      (record { inside = λ i. ap (λ (x : Bool). not x || branching Lc La Rc Ra i) (bit-none i); above = λ i l. bit-none i; small = lit< tt })
+
+  -- ---- no two rows have the same words
+
+  -- a row's creations show which branching modes it keeps
+  kept-digit : (lc la rc ra s : Bool) → not s || branch lc la rc ra ≡ true → (creD lc la rc || s) && branch lc la rc ra ≡ s
+  unfolding _⊕_
+  kept-digit lc la rc ra s e =
+      of-same _ _ (mp _ _ (at5 (λ lc la rc ra s. imp (not s || branch lc la rc ra) (same ((creD lc la rc || s) && branch lc la rc ra) s)) refl lc la rc ra s) e)
+
+  kept-by : (S : ℕ) → Part 64 (branching Lc La Rc Ra) S → (p : ℕ) → bit (creAt Lc La Rc Ra S) p && branching Lc La Rc Ra p ≡ bit S p
+  kept-by S h p =
+      ap (λ (x : Bool). x && branching Lc La Rc Ra p) (bit-cre Lc La Rc Ra S p) ∙ kept-digit (bit Lc p) (bit La p) (bit Rc p) (bit Ra p) (bit S p) (h .inside p)
+
+  other-rows : (z : ℤ) (S T : ℕ) → Part 64 (branching Lc La Rc Ra) S → Part 64 (branching Lc La Rc Ra) T → (S ≡ T → ⊥) → Other (rowTimes Lc La Rc Ra z S) (rowTimes Lc La Rc Ra z T)
+  other-rows z S T h k n c a =
+      n (ext S T (λ p. sym (kept-by S h p) ∙ ap (λ (w : ℕ). bit w p && branching Lc La Rc Ra p) c ∙ kept-by T k p))
+
+  pub rows-differ : (z : ℤ) → Pairwise Other (rowsTimes Lc La Rc Ra z)
+  unfolding rowsTimes
+  rows-differ z = go (notEmpty Lc La Rc Ra)
+    where
+      go : (b : Bool) → Pairwise Other (cond b (map (rowTimes Lc La Rc Ra z) (choices 64 0 (branching Lc La Rc Ra) 0)) [])
+      go true =
+          pairwise-over (Part 64 (branching Lc La Rc Ra)) (λ S T. S ≡ T → ⊥) Other (rowTimes Lc La Rc Ra z) (other-rows z) (choices 64 0 (branching Lc La Rc Ra) 0)
+          parts (choices-differ 64 0 (branching Lc La Rc Ra) 0)
+      go false = tt
+
+  -- ---- the rows that the output holds
+
+  module _ (hLc : Lc < 2 ^ 64) (hLa : La < 2 ^ 64) (hRc : Rc < 2 ^ 64) (hRa : Ra < 2 ^ 64) where
+    row-fits : (z : ℤ) → natAbs z < 2 ^ 63 → (S : ℕ) → Part 64 (branching Lc La Rc Ra) S → Fit (rowTimes Lc La Rc Ra z S)
+    row-fits z l S h = record {
+      ann = or-lt 64 (bitOr Ra (bitXor La (bitAnd La Rc))) S (or-lt 64 Ra (bitXor La (bitAnd La Rc)) hRa (xor-lt 64 La (bitAnd La Rc) hLa (and-lt 64 La Rc hLa hRc))) (h .small);
+      cre = or-lt 64 (bitOr Lc (bitXor Rc (bitAnd La Rc))) S (or-lt 64 Lc (bitXor Rc (bitAnd La Rc)) hLc (xor-lt 64 Rc (bitAnd La Rc) hRc (and-lt 64 La Rc hLa hRc))) (h .small);
+      coeff = abs-fits (signed (minusAt Lc La Rc Ra S) z) (rw (abs-signed (minusAt Lc La Rc Ra S) z) l);
+    }
+
+    pub rows-fit : (z : ℤ) → natAbs z < 2 ^ 63 → Every Fit (rowsTimes Lc La Rc Ra z)
+    unfolding rowsTimes
+    rows-fit z l = go (notEmpty Lc La Rc Ra)
+      where
+        go : (b : Bool) → Every Fit (cond b (map (rowTimes Lc La Rc Ra z) (choices 64 0 (branching Lc La Rc Ra) 0)) [])
+        go true = every-map Fit (rowTimes Lc La Rc Ra z) (choices 64 0 (branching Lc La Rc Ra) 0) (each-map (Part 64 (branching Lc La Rc Ra)) (λ S. Fit (rowTimes Lc La Rc Ra z S)) (choices 64 0 (branching Lc La Rc Ra) 0) (row-fits z l) parts)
+        go false = none
+
+    module _ (room : ℕ) (r : Written) (after : List ℕ) (gives : Gives (multiplied Lc La Rc Ra room) r after) (accepted : r .refusal .number ≡ 0) where
+      -- a call that is not refused leaves the rows, and reports how many they are
+      filled : (r .branches ≡ length (rowsTimes Lc La Rc Ra (pos 1))) × (after ≡ rowsBytes (rowsTimes Lc La Rc Ra (pos 1)) ++ zeros (room - length (rowsBytes (rowsTimes Lc La Rc Ra (pos 1)))))
+      unfolding multiplied
+      filled = go (noRoom Lc La Rc Ra room) (gives .answer) (gives .bytes)
+        where
+          o : Bool → Output
+          o b = cond b (refusedOutput room (refusal 7 0 0)) (filledOutput room (length (rowsTimes Lc La Rc Ra (pos 1))) (rowsBytes (rowsTimes Lc La Rc Ra (pos 1))))
+
+          go : (b : Bool) → r ≡ o b .answer → after ≡ o b .bytes
+              → (r .branches ≡ length (rowsTimes Lc La Rc Ra (pos 1))) × (after ≡ rowsBytes (rowsTimes Lc La Rc Ra (pos 1)) ++ zeros (room - length (rowsBytes (rowsTimes Lc La Rc Ra (pos 1)))))
+          go true e f = let z : _≡_ {A = ℕ} 7 0 = sym (ap (λ (w : Written). w .refusal .number) e) ∙ accepted in absurd (omega arith)
+          go false e f = (ap (λ (w : Written). w .branches) e, f)
+
+      pub rows-left : rowsAt after 0 (r .branches) ≡ rowsTimes Lc La Rc Ra (pos 1)
+      rows-left =
+          ap₂ (λ (l : List ℕ) (n : ℕ). rowsAt l 0 n) (filled .1) (filled .0)
+          ∙ rows-at [] (zeros (room - length (rowsBytes (rowsTimes Lc La Rc Ra (pos 1))))) 0 (rowsTimes Lc La Rc Ra (pos 1)) refl (rows-fit (pos 1) (lit< tt))
+
+      -- THE PRODUCT: the rows decoded from the output act, as a sum, as R and then L, ladder by ladder, on every word and at every bra
+      pub output-acts : (bra ket : ℕ) → element bra ket (rowsAt after 0 (r .branches)) ≡ adds bra (pos 1) (term Lc La (term Rc Ra (went ket false)))
+      output-acts bra ket = ap (element bra ket) rows-left ∙ product-acts Lc La Rc Ra hLc hLa hRc hRa bra ket (pos 1)
+
+      -- no two of them have the same words
+      pub output-differs : Pairwise Other (rowsAt after 0 (r .branches))
+      output-differs = subst (Pairwise Other) (sym rows-left) (rows-differ (pos 1))
+
+      -- and there are 2^b of them, or none where the product is empty
+      pub output-number : r .branches ≡ cond (notEmpty Lc La Rc Ra) (2 ^ count 64 (branching Lc La Rc Ra)) 0
+      output-number = filled .0 ∙ go (notEmpty Lc La Rc Ra) refl
+        where
+          go : (b : Bool) → notEmpty Lc La Rc Ra ≡ b → length (rowsTimes Lc La Rc Ra (pos 1)) ≡ cond b (2 ^ count 64 (branching Lc La Rc Ra)) 0
+          go true e = rows-number Lc La Rc Ra hLc hLa hRc hRa (pos 1) e
+          go false e = ap length (rows-none Lc La Rc Ra hLc hLa hRc hRa (pos 1) e)
+
+  -- ---- the refusal
+
+  -- refused with 7 exactly if the product isn't empty and 24 times 2^b exceeds the output's length
+  pub refused-where : (room : ℕ) (r : Written) (after : List ℕ) → Gives (multiplied Lc La Rc Ra room) r after
+      → r .refusal .number ≡ cond (notEmpty Lc La Rc Ra && ltb room (24 * 2 ^ count 64 (branching Lc La Rc Ra))) 7 0
+  unfolding multiplied
+  refused-where room r after g = ap (λ (w : Written). w .refusal .number) (g .answer) ∙ go (noRoom Lc La Rc Ra room)
+    where
+      go : (b : Bool) → (cond b (refusedOutput room (refusal 7 0 0)) (filledOutput room (length (rowsTimes Lc La Rc Ra (pos 1))) (rowsBytes (rowsTimes Lc La Rc Ra (pos 1))))) .answer .refusal .number ≡ cond b 7 0
+      go true = refl
+      go false = refl
