@@ -26,6 +26,10 @@ extern "C" {
  * minus, both 0 for Zero. Never refuses. */
 void fermion_apply(uint64_t cre, uint64_t ann, uint64_t ket, uint64_t answer[8]);
 
+/* The rows of one product L R, 24 bytes each: annihilation word, creation word, coefficient (1 or -1). Refusal: 7. */
+void fermion_mul_cmpnts(uint64_t l_cre, uint64_t l_ann, uint64_t r_cre, uint64_t r_ann,
+                        uint8_t *out, size_t out_len, uint64_t answer[8]);
+
 #ifdef __cplusplus
 }
 #endif

@@ -3,7 +3,10 @@ use mathlib.Core.Path.{_≡_}
 use mathlib.Core.Bool.{Bool, true, false}
 use mathlib.Core.List.{List, [], _∷_}
 use Prim.Native.Nat.{ℕ, _-_, _^_}
+use lib.IntN.{ℤ, pos, negsuc}
+use Rattle.modes.specs.declared.Term.{Term}
 use Rattle.products.specs.Apply.{applied}
+use Rattle.products.specs.Product.{rowsTimes}
 use Rattle.products.specs.declared.ApplyResult.{ApplyResult}
 use Rattle.products.specs.declared.ApplyResult.the-variants.{Applied, Zero}
 
@@ -13,13 +16,26 @@ plus w = Applied w (record { 0 = false })
 abbrev minus : ℕ → ApplyResult
 minus w = Applied w (record { 0 = true })
 
+-- a row with its coefficient, 1 or -1
+abbrev row : ℕ → ℕ → ℤ → Term
+row cre ann z = record { cre = cre; ann = ann; coeff = z }
+
+abbrev one : ℤ
+one = pos 1
+
+abbrev minus-one : ℤ
+minus-one = negsuc 0
+
 pub data Case : Type 0 where
+  -- {l-cre|l-ann} times {r-cre|r-ann} has these rows, in this order
+  product : (l-cre l-ann r-cre r-ann : ℕ) → List Term → Case
   -- {cre|ann} on a ket gives this
   gives : (cre ann ket : ℕ) → ApplyResult → Case
   -- {cre|ann} on any ket gives that ket, plus
   keeps : (cre ann : ℕ) → Case
 
 abbrev pub Holds : Case → Type 0
+Holds (product l-cre l-ann r-cre r-ann rows) = rowsTimes l-cre l-ann r-cre r-ann (pos 1) ≡ rows
 Holds (gives cre ann ket r) = applied cre ann ket ≡ r
 Holds (keeps cre ann) = (ket : ℕ) → applied cre ann ket ≡ plus ket
 
@@ -34,7 +50,15 @@ n ▸ c = record { number = n; case = c }
 
 abbrev pub cases : List Numbered
 cases =
-    (9 ▸ keeps 0 0)
+    (1 ▸ product 1 0 1 0 [])
+    ∷ (2 ▸ product 1 1 1 1 (row 1 1 one ∷ []))
+    ∷ (3 ▸ product 0 1 1 0 (row 0 0 one ∷ row 1 1 minus-one ∷ []))
+    ∷ (4 ▸ product 0 1 2 0 (row 2 1 minus-one ∷ []))
+    ∷ (5 ▸ product 0 1 2 4 (row 2 5 minus-one ∷ []))
+    ∷ (6 ▸ product 1 4 2 0 (row 3 4 minus-one ∷ []))
+    ∷ (7 ▸ product 2 0 1 0 (row 3 0 minus-one ∷ []))
+    ∷ (8 ▸ product 0 3 3 0 (row 0 0 minus-one ∷ row 2 2 one ∷ row 1 1 one ∷ row 3 3 one ∷ []))
+    ∷ (9 ▸ keeps 0 0)
     ∷ (10 ▸ gives 4 1 3 (minus 6))
     ∷ (11 ▸ gives 0 4 3 Zero)
     ∷ (11 ▸ gives 1 0 1 Zero)
