@@ -4,6 +4,7 @@ ghost use Prim.Native.Nat.{_<_};
 use libc::STDIN_FILENO;
 use libc::STDOUT_FILENO;
 use modes::Sign;
+use modes::Written;
 use products::ApplyResult;
 
 // How many answers were compared, how many differ, and which was the first to, counted from 1.
@@ -93,8 +94,84 @@ fn applies(cre: u64, ann: u64, ket: u64, outcome: u64, word: u64, minus: u64) ->
     }
 }
 
+// The word at `at` of a row or an output.
+fn word(out: &[u8; 96], at: usize) -> u64 {
+    if at <= 88 { lent::word(out, at) } else { 0 }
+}
+
+// Is row k {cre|ann} with this coefficient, 1 or -1 as its bits?
+fn row_is(out: &[u8; 96], k: usize, ann: u64, cre: u64, coeff: u64) -> bool
+    requires { ⌜ k < 4 ⌝ }
+{
+    let at = 24 * k;
+    word(out, at) == ann && word(out, at + 8) == cre && word(out, at + 16) == coeff
+}
+
+// The rows of a product in 96 bytes, and what the call answered.
+struct Rows {
+    out: [u8; 96],
+    answer: Written,
+}
+
+fn product(l_cre: u64, l_ann: u64, r_cre: u64, r_ann: u64) -> Rows {
+    let mut out = [255u8; 96];
+    let answer = products::mul_cmpnts(l_cre, l_ann, r_cre, r_ann, &mut out);
+    Rows { out, answer }
+}
+
+impl Rows {
+    // Not refused, with n rows, and zeros past them?
+    fn has_rows(self, n: u64) -> bool {
+        let out = self.out;
+        let answer = self.answer;
+        let mut i: usize = 0;
+        while i < 96 {
+            if (i as u64) / 24 >= n && out[i] != 0 {
+                return false;
+            }
+            i += 1;
+        }
+        answer.refusal.number == 0 && answer.branches == n
+    }
+
+    // One row, {cre|ann} minus?
+    fn is_minus(self, ann: u64, cre: u64) -> bool {
+        let out = self.out;
+        self.has_rows(1) && row_is(&out, 0, ann, cre, u64::MAX)
+    }
+}
+
+// Cases 1 to 8, in their order.
+fn numbered_products() -> Tally {
+    let two = product(1, 1, 1, 1);
+    let three = product(0, 1, 1, 0);
+    let eight = product(0, 3, 3, 0);
+    let two_out = two.out;
+    let three_out = three.out;
+    let eight_out = eight.out;
+    Tally::new()
+        .with(product(1, 0, 1, 0).has_rows(0))
+        .with(two.has_rows(1) && row_is(&two_out, 0, 1, 1, 1))
+        .with(
+            three.has_rows(2)
+                && row_is(&three_out, 0, 0, 0, 1)
+                && row_is(&three_out, 1, 1, 1, u64::MAX),
+        )
+        .with(product(0, 1, 2, 0).is_minus(1, 2))
+        .with(product(0, 1, 2, 4).is_minus(5, 2))
+        .with(product(1, 4, 2, 0).is_minus(4, 3))
+        .with(product(2, 0, 1, 0).is_minus(0, 3))
+        .with(
+            eight.has_rows(4)
+                && row_is(&eight_out, 0, 0, 0, u64::MAX)
+                && row_is(&eight_out, 1, 2, 2, 1)
+                && row_is(&eight_out, 2, 1, 1, 1)
+                && row_is(&eight_out, 3, 3, 3, 1),
+        )
+}
+
 // Cases 9 to 13, in their order.
-fn numbered() -> Tally {
+fn numbered_words() -> Tally {
     let nine = Tally::new()
         .with(applies(0, 0, 0, 1, 0, 0))
         .with(applies(0, 0, 5, 1, 5, 0))
@@ -182,8 +259,10 @@ fn read_stored() -> Stored {
 }
 
 fn main() {
+    io::write_all(STDOUT_FILENO, b"numbered cases 1 to 8: ");
+    print_tally(numbered_products());
     io::write_all(STDOUT_FILENO, b"numbered cases 9 to 13: ");
-    print_tally(numbered());
+    print_tally(numbered_words());
     let s = read_stored();
     io::write_all(STDOUT_FILENO, b"apply_op_ket_u64: ");
     print_tally(s.applied);

@@ -1,5 +1,7 @@
 // Little-endian words and rows in lent bytes, signed numbers, and wiping.
+use modes::Refusal;
 use modes::Term;
+use modes::Written;
 ghost use mathlib.Core.Path.{_≡_};
 ghost use mathlib.Core.List.{_++_};
 ghost use Prim.Native.Nat.{_+_, _-_, _≤_, _<_, _^_};
@@ -10,6 +12,7 @@ ghost use mir.Syntax.{w64};
 ghost use mir.Val.{toZ, ofZ};
 ghost use Rattle.lent.specs.Bytes.{halfAt, wordAt, putHalf, putWord, zeros};
 ghost use Rattle.lent.specs.Rows.{Fit, rowAt, putRow};
+ghost use Rattle.lent.specs.Outputs.{Gives, refusedOutput};
 
 fn wide(x: u8) -> usize
     ensures { λ r. ⌜ (r ≡ x) × (r < 256) ⌝ }
@@ -142,4 +145,12 @@ pub fn wipe_from(buf: &mut [u8], from: usize)
     ensures { λ _. ⌜ now (buf .exit) ≡ take from (now (buf .entry)) ++ zeros (length (now (buf .entry)) - from) ⌝ }
 {
     wipe(&mut buf[from..]);
+}
+
+// The one way to refuse: the output wiped whole, and length and branches 0.
+pub fn refuse(out: &mut [u8], refusal: Refusal) -> Written
+    ensures { λ r. ⌜ Gives (refusedOutput (length (now (out .entry))) refusal) r (now (out .exit)) ⌝ }
+{
+    wipe(out);
+    Written::refused(refusal)
 }

@@ -148,8 +148,9 @@ module _ (Lc La Rc Ra : ℕ) (hLc : Lc < 2 ^ 64) (hLa : La < 2 ^ 64) (hRc : Rc <
       at (inl l) = ap (λ (x : Bool). bit La p && bit Rc p && not (bit Lc p) && x) (bit-not 64 Ra p hRa l)
       at (inr l) = rw (bit-above 64 La p hLa l)
 
-  -- ---- the three answers
+-- ---- the three answers
 
+module _ (Lc La Rc Ra : ℕ) where
   pub rows-none : (z : ℤ) → notEmpty Lc La Rc Ra ≡ false → rowsTimes Lc La Rc Ra z ≡ []
   unfolding rowsTimes
   rows-none z e = rw e
@@ -161,18 +162,17 @@ module _ (Lc La Rc Ra : ℕ) (hLc : Lc < 2 ^ 64) (hLa : La < 2 ^ 64) (hRc : Rc <
   pub rows-number : (z : ℤ) → notEmpty Lc La Rc Ra ≡ true → length (rowsTimes Lc La Rc Ra z) ≡ 2 ^ count 64 (branching Lc La Rc Ra)
   rows-number z e = ap length (rows-full z e) ∙ length-map (rowTimes Lc La Rc Ra z) (choices 64 0 (branching Lc La Rc Ra) 0) ∙ choices-number (branching Lc La Rc Ra)
 
-  -- empty: no rows, and the output all zero
-  pub gives-nothing : (room : ℕ) (after : List ℕ) → notEmpty Lc La Rc Ra ≡ false → after ≡ zeros room → Gives (multiplied Lc La Rc Ra room) (refused none) after
+  -- empty: no rows, and the output all zero, as after a refusal
+  pub empty-is : (room : ℕ) → notEmpty Lc La Rc Ra ≡ false → refusedOutput room none ≡ multiplied Lc La Rc Ra room
   unfolding multiplied rowsBytes
-  gives-nothing room after e h =
+  empty-is room e =
       let all : room ≡ room - 0 = omega arith in
-      record { answer = rw (rows-none (pos 1) e, e); bytes = h ∙ rw (rows-none (pos 1) e, e) (ap zeros all) }
+      rw (rows-none (pos 1) e, e) (λ i. record { answer = refused none; bytes = zeros (all i) })
 
   -- not empty, and no room
-  pub gives-seven : (room : ℕ) (after : List ℕ) → notEmpty Lc La Rc Ra ≡ true → room < 24 * 2 ^ count 64 (branching Lc La Rc Ra) → after ≡ zeros room
-      → Gives (multiplied Lc La Rc Ra room) (refused (refusal 7 0 0)) after
+  pub seven-is : (room : ℕ) → notEmpty Lc La Rc Ra ≡ true → room < 24 * 2 ^ count 64 (branching Lc La Rc Ra) → refusedOutput room (refusal 7 0 0) ≡ multiplied Lc La Rc Ra room
   unfolding multiplied
-  gives-seven room after e l h = record { answer = rw (e, lt-ltb room _ l); bytes = h ∙ rw (e, lt-ltb room _ l) }
+  seven-is room e l = rw (e, lt-ltb room _ l)
 
   -- not empty, and room: the walk's rows, put at the front of what the output held, and zeros past them
   module _ (l : List ℕ) (full : notEmpty Lc La Rc Ra ≡ true) (w : ℕ) (h : w < 2 ^ 64) (is : (p : ℕ) → bit w p ≡ branching Lc La Rc Ra p)

@@ -133,8 +133,8 @@ module _ (Lc La Rc Ra : ℕ) where
       output-number = filled .0 ∙ go (notEmpty Lc La Rc Ra) refl
         where
           go : (b : Bool) → notEmpty Lc La Rc Ra ≡ b → length (rowsTimes Lc La Rc Ra (pos 1)) ≡ cond b (2 ^ count 64 (branching Lc La Rc Ra)) 0
-          go true e = rows-number Lc La Rc Ra hLc hLa hRc hRa (pos 1) e
-          go false e = ap length (rows-none Lc La Rc Ra hLc hLa hRc hRa (pos 1) e)
+          go true e = rows-number Lc La Rc Ra (pos 1) e
+          go false e = ap length (rows-none Lc La Rc Ra (pos 1) e)
 
   -- ---- the refusal
 

@@ -4,3 +4,4 @@ pub mod Apply
 pub mod Product
 pub mod Walk
 pub mod Lists
+pub mod Fitting

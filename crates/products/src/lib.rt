@@ -13,6 +13,7 @@ ghost use Rattle.lent.specs.Outputs.{Gives};
 ghost use Rattle.products.specs.Apply.{applied};
 ghost use Rattle.products.specs.Operators.{signed};
 ghost use Rattle.products.specs.Product.{notEmpty, branching, rowTimes, multiplied};
+ghost use Rattle.products.specs.Fitting.{Fitting};
 ghost use Rattle.products.specs.Walk.{One, keeping, walk};
 use modes::Refusal;
 use modes::Sign;
@@ -168,6 +169,20 @@ fn rows_fit(n_bif: u32, room: usize) -> bool
     (24usize << n_bif) <= room
 }
 
+// The rows to the front of the output, and zeros past them; `left` are the branching modes, and the rows fit.
+fn write_rows(helper: ProductHelper, left: u64, out: &mut [u8]) -> Written
+    requires { ⌜ Fitting helper left (length (now out)) ⌝ }
+    ensures { λ r. ⌜ Gives (multiplied (helper .«l_cre») (helper .«l_ann») (helper .«r_cre») (helper .«r_ann») (length (now (out .entry)))) r (now (out .exit)) ⌝ }
+{
+    let end = do_branch(out, 0, left, helper.lowest_row(1));
+    lent::wipe_from(out, end);
+    Written {
+        refusal: Refusal::NONE,
+        len: end,
+        branches: 1u64 << u64::count_ones(left),
+    }
+}
+
 // The rows of the product L R, 24 bytes each, in order, and zeros past them. Refused with 7 if they do not fit.
 pub fn mul_cmpnts(l_cre: u64, l_ann: u64, r_cre: u64, r_ann: u64, out: &mut [u8]) -> Written
     ensures { λ r. ⌜ Gives (multiplied «l_cre» «l_ann» «r_cre» «r_ann» (length (now (out .entry)))) r (now (out .exit)) ⌝ }
@@ -179,24 +194,16 @@ pub fn mul_cmpnts(l_cre: u64, l_ann: u64, r_cre: u64, r_ann: u64, out: &mut [u8]
         r_ann,
     };
     if helper.destroys() {
-        lent::wipe(out);
-        return Written::refused(Refusal::NONE);
+        return lent::refuse(out, Refusal::NONE);
     }
     let left = helper.bifurcations();
-    let n_bif = u64::count_ones(left);
-    if !rows_fit(n_bif, out.len()) {
-        lent::wipe(out);
-        return Written::refused(Refusal {
-            number: 7,
-            operand: 0,
-            place: 0,
-        });
+    if rows_fit(u64::count_ones(left), out.len()) {
+        return write_rows(helper, left, out);
     }
-    let end = do_branch(out, 0, left, helper.lowest_row(1));
-    lent::wipe_from(out, end);
-    Written {
-        refusal: Refusal::NONE,
-        len: end,
-        branches: 1u64 << n_bif,
-    }
+    let seven = Refusal {
+        number: 7,
+        operand: 0,
+        place: 0,
+    };
+    lent::refuse(out, seven)
 }
