@@ -13,6 +13,8 @@ use lib.Bits.{bitAnd, bitOr, bitXor, and-shr, or-shr, xor-shr, and-mod, or-mod, 
 use borrow.Author.Tests.{ltb-true, ltb-false}
 use Rattle.modes.specs.Bools.{_⊕_}
 use Rattle.modes.specs.Words.{bit, _△_}
+use Rattle.modes.specs.Counts.{odd}
+use Rattle.modes.proofs.Sets.{odd-△}
 
 pub lt-or-ge : (i p : ℕ) → (i < p) ⊎ (p ≤ i)
 lt-or-ge i p = go (ltb i p) refl
@@ -118,6 +120,9 @@ bit-pow (suc q) (suc p) =
 pub bits-xor : (a b : ℕ) → bit (bitXor a b) ≡ bit a △ bit b
 unfolding _△_
 bits-xor a b = fun-ext (bit-xor a b)
+
+pub odd-xor : (k a b : ℕ) → odd k (bit (bitXor a b)) ≡ odd k (bit a) ⊕ odd k (bit b)
+odd-xor k a b = ap (odd k) (bits-xor a b) ∙ odd-△ k (bit a) (bit b)
 
 -- the empty word
 pub bit-none : (i : ℕ) → bit 0 i ≡ false

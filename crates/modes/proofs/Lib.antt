@@ -4,3 +4,4 @@ pub mod Digits
 pub mod Counts
 pub mod Lowest
 pub mod Single
+pub mod Before

@@ -10,6 +10,15 @@ use Rattle.modes.specs.Words.{Modes, _△_, each}
 use Rattle.modes.specs.Counts.{odd, oddExchanges}
 use Rattle.modes.proofs.Bools.{⊕-false, parity-sum, swap4, and-⊕, and-⊕-r, of-same, at4, and-l, and-r}
 
+pub △-at : (u v : Modes) (p : ℕ) → (u △ v) p ≡ u p ⊕ v p
+unfolding _△_
+△-at u v p = refl
+
+pub odd-cong : (k : ℕ) (u v : Modes) → ((p : ℕ) → p < k → u p ≡ v p) → odd k u ≡ odd k v
+unfolding odd
+odd-cong zero u v h = refl
+odd-cong (suc p) u v h = ap₂ (λ (x y : Bool). x ⊕ y) (odd-cong p u v (λ i l. h i (omega arith))) (h p (lt-suc-self p))
+
 pub odd-△ : (k : ℕ) (u v : Modes) → odd k (u △ v) ≡ odd k u ⊕ odd k v
 unfolding odd _△_
 odd-△ zero u v = sym (⊕-false false)

@@ -1,18 +1,21 @@
 -- One mode p as a word, 2^p: the modes below it and those above it, at any width.
 use mathlib.Core.Path.{_≡_, refl, sym, ap, ap₂, _∙_}
-use mathlib.Core.Bool.{Bool, true, false, cond}
+use mathlib.Core.Bool.{Bool, true, false, not, cond, _&&_}
 use mathlib.Core.Logic.{_⊎_, inl, inr}
 use Prim.Native.Nat.{ℕ, zero, suc, _+_, _-_, _^_, _≤_, _<_}
-use native.Mathlib.Nat.{le-refl, not-suc-le-zero, zero-add, pow-suc}
+use native.Mathlib.Nat.{le-refl, lt-of-le-of-lt, not-suc-le-zero, zero-add, pow-suc}
 use native.Mathlib.Omega.{arith}
-use lib.Bits.{bitAnd, and-mask}
+use lib.Bits.{bitAnd, and-mask, and-le-l}
 use lib.Count.{ones}
-use lib.Pow.{pow-pos}
+use lib.Pow.{pow-pos, pow-mono}
 use borrow.Author.Tests.{ne-eqb, eq-eqb}
-use Rattle.modes.specs.Words.{Modes, bit}
-use Rattle.modes.specs.Counts.{count, exchanges}
-use Rattle.modes.proofs.Digits.{lt-or-ge, bit-pow, bit-none}
-use Rattle.modes.proofs.Counts.{count-ones}
+use Rattle.modes.specs.Bools.{_⊕_}
+use Rattle.modes.specs.Words.{Modes, bit, _△_}
+use Rattle.modes.specs.Counts.{parity, count, exchanges, odd, oddExchanges}
+use Rattle.modes.proofs.Bools.{⊕-false, false-⊕, ⊕-left, ⊕-self, ⊕-self-left}
+use Rattle.modes.proofs.Sets.{odd-△, odd-cong, △-at}
+use Rattle.modes.proofs.Digits.{lt-or-ge, bit-and, bit-not, bit-pow, bit-none}
+use Rattle.modes.proofs.Counts.{parity-add, count-odd, exchanges-odd, count-ones, ones-below-width}
 use Rattle.modes.proofs.Lowest.{Less, exchanges-less, exchanges-end, count-less}
 
 -- the one mode, and nothing
@@ -80,3 +83,53 @@ ones-up-to w p = ap (λ (x : ℕ). ones (bitAnd w x)) twice ∙ ones-below w (su
   where
     twice : (2 ^ p - 1) + 2 ^ p ≡ 2 ^ suc p - 1
     twice = omega (arith, pow-suc 2 p, pow-pos p)
+
+-- ---- as parities, at a width k
+
+odd-ones : (k x : ℕ) → x < 2 ^ k → odd k (bit x) ≡ parity (ones x)
+odd-ones k x h = sym (count-odd k (bit x)) ∙ ap parity (sym (ones-below-width k x h))
+
+-- `w & (2^q - 1)`: as many modes, modulo 2, as stand below q
+pub odd-below : (k w q : ℕ) → w < 2 ^ k → q < k → odd k (bit (bitAnd w (2 ^ q - 1))) ≡ oddExchanges k (bit w) (bit (2 ^ q))
+odd-below k w q h l =
+    odd-ones k (bitAnd w (2 ^ q - 1)) (lt-of-le-of-lt (and-le-l w (2 ^ q - 1)) h)
+    ∙ ap parity (ones-below w q ∙ sym (exchanges-one k q (bit w) l)) ∙ exchanges-odd k (bit w) (bit (2 ^ q))
+
+-- `w & !(2^q - 1 + 2^q)`: as many, modulo 2, as stand above q
+pub odd-above : (k w q : ℕ) → w < 2 ^ k → q < k
+    → odd k (bit (bitAnd w ((2 ^ k - 1) - ((2 ^ q - 1) + 2 ^ q)))) ≡ oddExchanges k (bit (2 ^ q)) (bit w)
+odd-above k w q h l = part (odd k (bit w)) (odd k (bit low)) (odd k (bit high)) (oddExchanges k (bit (2 ^ q)) (bit w)) (odd (suc q) (bit w)) split few all
+  where
+    small : (2 ^ q - 1) + 2 ^ q < 2 ^ k
+    small = omega (arith, pow-suc 2 q, pow-pos q, pow-mono l)
+
+    low : ℕ
+    low = bitAnd w ((2 ^ q - 1) + 2 ^ q)
+
+    high : ℕ
+    high = bitAnd w ((2 ^ k - 1) - ((2 ^ q - 1) + 2 ^ q))
+
+    digit : (x y : Bool) → x ≡ (x && y) ⊕ (x && not y)
+    digit true true = sym (⊕-false true)
+    digit true false = sym (false-⊕ true)
+    digit false y = sym (⊕-false false)
+
+    split : odd k (bit w) ≡ odd k (bit low) ⊕ odd k (bit high)
+    split =
+        odd-cong k (bit w) (bit low △ bit high)
+        (λ p m. digit (bit w p) (bit ((2 ^ q - 1) + 2 ^ q) p)
+        ∙ sym (△-at (bit low) (bit high) p ∙ ap₂ (λ (x y : Bool). x ⊕ y) (bit-and w ((2 ^ q - 1) + 2 ^ q) p)
+        (bit-and w ((2 ^ k - 1) - ((2 ^ q - 1) + 2 ^ q)) p ∙ ap (λ (x : Bool). bit w p && x) (bit-not k ((2 ^ q - 1) + 2 ^ q) p small m))))
+        ∙ odd-△ k (bit low) (bit high)
+
+    few : odd k (bit low) ≡ odd (suc q) (bit w)
+    few = odd-ones k low (lt-of-le-of-lt (and-le-l w ((2 ^ q - 1) + 2 ^ q)) h) ∙ ap parity (ones-up-to w q) ∙ count-odd (suc q) (bit w)
+
+    all : oddExchanges k (bit (2 ^ q)) (bit w) ⊕ odd (suc q) (bit w) ≡ odd k (bit w)
+    all =
+        ap₂ (λ (x y : Bool). x ⊕ y) (sym (exchanges-odd k (bit (2 ^ q)) (bit w))) (sym (count-odd (suc q) (bit w)))
+        ∙ sym (parity-add (exchanges k (bit (2 ^ q)) (bit w)) (count (suc q) (bit w))) ∙ ap parity (one-exchanges k q (bit w) l) ∙ count-odd k (bit w)
+
+    part : (o a b e f : Bool) → o ≡ a ⊕ b → a ≡ f → e ⊕ f ≡ o → b ≡ e
+    part o a b e f p r s =
+        sym (⊕-self-left a b) ∙ ap₂ (λ (x y : Bool). x ⊕ y) r (sym p ∙ sym s) ∙ ⊕-left f e f ∙ ap (λ (x : Bool). e ⊕ x) (⊕-self f) ∙ ⊕-false e

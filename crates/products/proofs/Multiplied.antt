@@ -16,14 +16,14 @@ use lib.Seq.{take-at}
 use borrow.Author.Tests.{lt-ltb, le-ltb, leb-true, leb-false}
 use Rattle.modes.specs.Bools.{_⊕_}
 use Rattle.modes.specs.Words.{Modes, bit, _△_, each}
-use Rattle.modes.specs.Counts.{parity, count, exchanges, odd, oddExchanges}
+use Rattle.modes.specs.Counts.{count, odd, oddExchanges}
 use Rattle.modes.specs.Answers.{refusal, refused, none, wrote}
 use Rattle.modes.specs.declared.Written.{Written}
 use Rattle.modes.specs.declared.Term.{Term}
 use Rattle.modes.proofs.Bools.{false-⊕, ⊕-assoc}
 use Rattle.modes.proofs.Sets.{each-all, each-at, odd-none}
-use Rattle.modes.proofs.Digits.{lt-or-ge, bit-and, bit-not, bit-above, bit-none, bits-xor, ext}
-use Rattle.modes.proofs.Counts.{parity-add, exchanges-odd, ones-word}
+use Rattle.modes.proofs.Digits.{lt-or-ge, bit-and, bit-not, bit-above, bit-none, bits-xor, odd-xor, ext}
+use Rattle.modes.proofs.Counts.{ones-word}
 use Rattle.lent.specs.Bytes.{put, zeros}
 use Rattle.lent.specs.Rows.{rowsBytes}
 use Rattle.lent.specs.Outputs.{Output, refusedOutput, filledOutput, Gives}
@@ -68,22 +68,22 @@ end-inside w room end len h fit e k = rw (e, k) (room-for w room h fit)
 
 -- ---- the lowest row
 
+-- x, y, u, v: the modes that R and then L pass, ladders of R's annihilations aside, and those that the row's own ladders pass
 pub lowest-sign : (Lc La Rc Ra x y u v : ℕ)
-    → x ≡ exchanges 64 (bit Ra) (bit Rc) → y ≡ exchanges 64 (bit (bitXor Ra Rc)) (bit La) → u ≡ exchanges 64 (bit (bitXor (bitXor Ra Rc) La)) (bit Lc)
-    → v ≡ exchanges 64 (bit (bitOr Ra (bitXor La (bitAnd La Rc)))) (bit (bitOr Lc (bitXor Rc (bitAnd La Rc))))
-    → parity (x + y + u + v) ≡ minusAt Lc La Rc Ra 0
+    → odd 64 (bit x) ≡ oddExchanges 64 (bit Ra) (bit Rc) → odd 64 (bit y) ≡ oddExchanges 64 (bit (bitXor Ra Rc)) (bit La)
+    → odd 64 (bit u) ≡ oddExchanges 64 (bit (bitXor (bitXor Ra Rc) La)) (bit Lc)
+    → odd 64 (bit v) ≡ oddExchanges 64 (bit (bitOr Ra (bitXor La (bitAnd La Rc)))) (bit (bitOr Lc (bitXor Rc (bitAnd La Rc))))
+    → odd 64 (bit (bitXor (bitXor (bitXor x y) u) v)) ≡ minusAt Lc La Rc Ra 0
 lowest-sign Lc La Rc Ra x y u v p q r s =
-    parity-add (x + y + u) v
+    odd-xor 64 (bitXor (bitXor x y) u) v
     ∙ ap₂ (λ (a b : Bool). a ⊕ b)
-    (parity-add (x + y) u ∙ ap₂ (λ (a b : Bool). a ⊕ b) (parity-add x y ∙ ap₂ (λ (a b : Bool). a ⊕ b) (odd-of _ _ p) (odd-of _ _ q ∙ ap (λ (w : Modes). oddExchanges 64 w (bit La)) (bits-xor Ra Rc)))
-    (odd-of _ _ r ∙ ap (λ (w : Modes). oddExchanges 64 w (bit Lc)) (bits-xor (bitXor Ra Rc) La ∙ ap (λ (w : Modes). w △ bit La) (bits-xor Ra Rc)))
+    (odd-xor 64 (bitXor x y) u ∙ ap₂ (λ (a b : Bool). a ⊕ b) (odd-xor 64 x y ∙ ap₂ (λ (a b : Bool). a ⊕ b) p (q ∙ ap (λ (w : Modes). oddExchanges 64 w (bit La)) (bits-xor Ra Rc)))
+    (r ∙ ap (λ (w : Modes). oddExchanges 64 w (bit Lc)) (bits-xor (bitXor Ra Rc) La ∙ ap (λ (w : Modes). w △ bit La) (bits-xor Ra Rc)))
     ∙ ⊕-assoc _ _ _)
-    (odd-of _ _ s ∙ ap₂ (λ (a c : ℕ). oddExchanges 64 (bit a) (bit c)) (sym (or-zero-r _)) (sym (or-zero-r _)))
-    ∙ sym (minus-is Lc La Rc Ra 0 ∙ ap (λ (o : Bool). (o ⊕ joined 64 (bit Lc) (bit La) (bit Rc) (bit Ra)) ⊕ oddExchanges 64 (bit (annAt Lc La Rc Ra 0)) (bit (creAt Lc La Rc Ra 0))) (odd-none 64 (bit 0) (λ i l. bit-none i))
+    (s ∙ ap₂ (λ (a c : ℕ). oddExchanges 64 (bit a) (bit c)) (sym (or-zero-r _)) (sym (or-zero-r _)))
+    ∙ sym (minus-is Lc La Rc Ra 0
+    ∙ ap (λ (o : Bool). (o ⊕ joined 64 (bit Lc) (bit La) (bit Rc) (bit Ra)) ⊕ oddExchanges 64 (bit (annAt Lc La Rc Ra 0)) (bit (creAt Lc La Rc Ra 0))) (odd-none 64 (bit 0) (λ i l. bit-none i))
     ∙ ap (λ (o : Bool). o ⊕ oddExchanges 64 (bit (annAt Lc La Rc Ra 0)) (bit (creAt Lc La Rc Ra 0))) (false-⊕ _))
-  where
-    odd-of : {n : ℕ} (a b : Modes) → n ≡ exchanges 64 a b → parity n ≡ oddExchanges 64 a b
-    odd-of a b e = ap parity e ∙ exchanges-odd 64 a b
 
 module _ (Lc La Rc Ra : ℕ) (hLc : Lc < 2 ^ 64) (hLa : La < 2 ^ 64) (hRc : Rc < 2 ^ 64) (hRa : Ra < 2 ^ 64) where
   -- ---- the two words of `destroys`

@@ -5,14 +5,14 @@ use mathlib.Core.List.{List, [], _∷_, _++_, append-nil, append-assoc}
 use Prim.Native.Nat.{ℕ, zero, suc, _+_, _-_, _*_, _^_, _≤_, _<_}
 use native.Mathlib.Nat.{pow-suc, lt-of-le-of-lt}
 use native.Mathlib.Omega.{arith}
-use lib.Bits.{bitAnd, and-le-l}
+use lib.Bits.{bitAnd, bitXor}
 use lib.IntN.{ℤ, pos, negsuc, natAbs}
 use lib.ListN.{length, length-append}
 use Rattle.modes.specs.Bools.{_⊕_}
 use Rattle.modes.specs.Words.{bit}
-use Rattle.modes.specs.Counts.{parity, count, exchanges, oddExchanges}
+use Rattle.modes.specs.Counts.{count, odd, oddExchanges}
 use Rattle.modes.specs.declared.Term.{Term}
-use Rattle.modes.proofs.Counts.{parity-add, exchanges-odd}
+use Rattle.modes.proofs.Digits.{odd-xor}
 use Rattle.modes.proofs.Lowest.{Lowest, lowest, lowest-is, lowest-less, lowest-small, count-less}
 use Rattle.modes.proofs.Single.{count-nothing}
 use Rattle.lent.specs.Bytes.{put}
@@ -29,13 +29,10 @@ abs-signed true (pos (suc n)) = refl
 abs-signed true (negsuc n) = refl
 abs-signed false z = refl
 
--- the exchanges that `keep` counts, x after and y before the mode
-pub kept-sign : (c a w x y : ℕ) → x ≡ exchanges 64 (bit w) (bit c) → y ≡ exchanges 64 (bit a) (bit w)
-    → parity (1 + (x + y)) ≡ true ⊕ (oddExchanges 64 (bit w) (bit c) ⊕ oddExchanges 64 (bit a) (bit w))
-kept-sign c a w x y p q =
-    parity-add 1 (x + y)
-    ∙ ap (λ (b : Bool). true ⊕ b)
-    (parity-add x y ∙ ap₂ (λ (b d : Bool). b ⊕ d) (ap parity p ∙ exchanges-odd 64 (bit w) (bit c)) (ap parity q ∙ exchanges-odd 64 (bit a) (bit w)))
+-- the modes that `keep` passes: x the creations after the mode, y the annihilations before it
+pub kept-sign : (c a w x y : ℕ) → odd 64 (bit x) ≡ oddExchanges 64 (bit w) (bit c) → odd 64 (bit y) ≡ oddExchanges 64 (bit a) (bit w)
+    → odd 64 (bit (bitXor x y)) ≡ oddExchanges 64 (bit w) (bit c) ⊕ oddExchanges 64 (bit a) (bit w)
+kept-sign c a w x y p q = odd-xor 64 x y ∙ ap₂ (λ (b d : Bool). b ⊕ d) p q
 
 -- ---- the modes that are left
 

@@ -6,7 +6,7 @@ ghost use lib.Dec.{leb};
 ghost use lib.IntN.{natAbs};
 ghost use lib.ListN.{length};
 ghost use Rattle.modes.specs.Words.{bit};
-ghost use Rattle.modes.specs.Counts.{count, exchanges};
+ghost use Rattle.modes.specs.Counts.{count, exchanges, odd, oddExchanges};
 ghost use Rattle.lent.specs.Bytes.{put};
 ghost use Rattle.lent.specs.Rows.{rowsBytes};
 ghost use Rattle.lent.specs.Outputs.{Gives};
@@ -59,19 +59,47 @@ pub fn apply_op_ket_u64(cre: u64, ann: u64, ket: u64) -> ApplyResult
 }
 
 // The set bits of `word` below the one bit of `mode`.
-fn count_set_bits_before(word: u64, mode: u64) -> u32
+fn set_bits_before(word: u64, mode: u64) -> u64
     requires { ⌜ One mode ⌝ }
-    ensures { λ r. ⌜ (r ≡ exchanges 64 (bit word) (bit mode)) × (r ≤ 64) ⌝ }
+    ensures { λ r. ⌜ odd 64 (bit r) ≡ oddExchanges 64 (bit word) (bit mode) ⌝ }
 {
-    u64::count_ones(word & (mode - 1))
+    word & (mode - 1)
 }
 
 // The set bits of `word` above the one bit of `mode`.
-fn count_set_bits_after(word: u64, mode: u64) -> u32
+fn set_bits_after(word: u64, mode: u64) -> u64
     requires { ⌜ One mode ⌝ }
-    ensures { λ r. ⌜ (r ≡ exchanges 64 (bit mode) (bit word)) × (r ≤ 64) ⌝ }
+    ensures { λ r. ⌜ odd 64 (bit r) ≡ oddExchanges 64 (bit mode) (bit word) ⌝ }
 {
-    u64::count_ones(word) - u64::count_ones(word & (mode - 1 + mode))
+    word & !(mode - 1 + mode)
+}
+
+// Bit p is set where an odd number of bits of `word` stand below p. Each step doubles how far down a bit looks.
+fn odd_before(word: u64) -> u64
+    ensures { λ r. ⌜ ((p : ℕ) → p < 64 → bit r p ≡ odd p (bit word)) ⌝ }
+{
+    let two = word ^ (word << 1);
+    let four = two ^ (two << 2);
+    let eight = four ^ (four << 4);
+    let sixteen = eight ^ (eight << 8);
+    let half = sixteen ^ (sixteen << 16);
+    let all = half ^ (half << 32);
+    all ^ word
+}
+
+// The bits of `at` with an odd number of bits of `word` below them: as many, modulo 2, as `count_before_each_set_bit`
+// counts, without a loop.
+fn odd_before_each_set_bit(word: u64, at: u64) -> u64
+    ensures { λ r. ⌜ odd 64 (bit r) ≡ oddExchanges 64 (bit word) (bit at) ⌝ }
+{
+    at & odd_before(word)
+}
+
+// Minus exactly if an odd number of bits is set.
+fn sign_of_bits(word: u64) -> Sign
+    ensures { λ r. ⌜ r .0 ≡ odd 64 (bit word) ⌝ }
+{
+    Sign::from_exchanges(u64::count_ones(word))
 }
 
 // The coefficient, or its negation where the sign is minus.
@@ -87,8 +115,8 @@ fn keep(row: Term, mode: u64) -> Term
     requires { ⌜ One mode × (natAbs (row .coeff) < 2 ^ 63) ⌝ }
     ensures { λ r. ⌜ (r ≡ keeping mode row) × (natAbs (r .coeff) < 2 ^ 63) ⌝ }
 {
-    let exchange = 1 + (count_set_bits_after(row.cre, mode) + count_set_bits_before(row.ann, mode));
-    let coeff = signed_coeff(Sign::from_exchanges(exchange), row.coeff);
+    let passed = set_bits_after(row.cre, mode) ^ set_bits_before(row.ann, mode);
+    let coeff = signed_coeff(Sign::MINUS.mul(sign_of_bits(passed)), row.coeff);
     Term {
         cre: row.cre | mode,
         ann: row.ann | mode,
@@ -145,11 +173,11 @@ impl ProductHelper {
         let cre = self.l_cre | (self.r_cre ^ common);
         let ann = self.r_ann | (self.l_ann ^ common);
         let after_r = self.r_ann ^ self.r_cre;
-        let exchange = count_before_each_set_bit(self.r_ann, self.r_cre)
-            + count_before_each_set_bit(after_r, self.l_ann)
-            + count_before_each_set_bit(after_r ^ self.l_ann, self.l_cre)
-            + count_before_each_set_bit(ann, cre);
-        let signed = signed_coeff(Sign::from_exchanges(exchange), coeff);
+        let passed = odd_before_each_set_bit(self.r_ann, self.r_cre)
+            ^ odd_before_each_set_bit(after_r, self.l_ann)
+            ^ odd_before_each_set_bit(after_r ^ self.l_ann, self.l_cre)
+            ^ odd_before_each_set_bit(ann, cre);
+        let signed = signed_coeff(sign_of_bits(passed), coeff);
         Term {
             cre,
             ann,
