@@ -3,15 +3,14 @@ use mathlib.Core.Path.{_≡_, refl, sym, ap, ap₂, _∙_}
 use mathlib.Core.Bool.{Bool, true, false, not, cond, _&&_, and-false, true≢false}
 use mathlib.Core.List.{List, [], _∷_, _++_, map}
 use mathlib.Core.Logic.{_⊎_, inl, inr}
-use Prim.Native.Nat.{ℕ, _+_, _-_, _*_, _%_, _^_, _≤_, _<_}
-use native.Mathlib.Nat.{mod-eq-of-lt, one-mul, mul-one, zero-add}
+use Prim.Native.Nat.{ℕ, _+_, _-_, _*_, _/_, _^_, _≤_, _<_}
+use native.Mathlib.Nat.{mul-div-cancel-left, zero-add}
 use native.Mathlib.Omega.{arith}
 use lib.Bits.{bitAnd, bitOr, bitXor, or-zero-r}
 use lib.Count.{ones}
-use lib.Dec.{ltb, leb}
+use lib.Dec.{ltb, lit<}
 use lib.IntN.{ℤ, pos}
 use lib.ListN.{length, take, drop}
-use lib.Pow.{pow-mono}
 use lib.Seq.{take-at}
 use borrow.Author.Tests.{lt-ltb, le-ltb, leb-true, leb-false}
 use Rattle.modes.specs.Bools.{_⊕_}
@@ -46,18 +45,6 @@ and-not a b c p ha hc = bit-and (bitAnd a b) ((2 ^ 64 - 1) - c) p ∙ ap (λ (x 
 -- the code's count of branching modes
 pub bifurcation-number : (Lc La Rc Ra w : ℕ) → w < 2 ^ 64 → ((p : ℕ) → bit w p ≡ branching Lc La Rc Ra p) → ones w ≡ count 64 (branching Lc La Rc Ra)
 bifurcation-number Lc La Rc Ra w h is = ones-word w h ∙ branching-number Lc La Rc Ra w h is
-
--- rows that fit a slice are few enough for a shift
-pub few-rows : (n room : ℕ) → 24 * 2 ^ n ≤ room → room < 2 ^ 63 → (n < 64) × ((1 * 2 ^ n) % 2 ^ 64 ≡ 2 ^ n)
-few-rows n room h l = (go (lt-or-ge n 64), ap (λ (x : ℕ). x % 2 ^ 64) (one-mul (2 ^ n)) ∙ mod-eq-of-lt (omega arith))
-  where
-    go : (n < 64) ⊎ (64 ≤ n) → n < 64
-    go (inl m) = m
-    go (inr m) = absurd (omega (arith, pow-mono m))
-
--- a slice of bytes is shorter than 2^63
-pub short-slice : (n : ℕ) → n * 1 < 2 ^ 63 → n < 2 ^ 63
-short-slice n h = rw mul-one at h
 
 -- room for the rows of a word of branching modes, and their end
 pub room-for : (w room : ℕ) → w < 2 ^ 64 → 24 * 2 ^ ones w ≤ room → 0 + 24 * 2 ^ count 64 (bit w) ≤ room
@@ -176,7 +163,7 @@ module _ (Lc La Rc Ra : ℕ) where
 
   -- not empty, and room: the walk's rows, put at the front of what the output held, and zeros past them
   module _ (l : List ℕ) (full : notEmpty Lc La Rc Ra ≡ true) (w : ℕ) (h : w < 2 ^ 64) (is : (p : ℕ) → bit w p ≡ branching Lc La Rc Ra p)
-      (fit : 24 * 2 ^ ones w ≤ length l) (short : length l < 2 ^ 63) where
+      (fit : 24 * 2 ^ ones w ≤ length l) where
     rows : List Term
     rows = rowsTimes Lc La Rc Ra (pos 1)
 
@@ -196,11 +183,11 @@ module _ (Lc La Rc Ra : ℕ) where
 
     pub gives-rows : (t : Term) (end branches : ℕ) (m after : List ℕ)
         → t ≡ rowTimes Lc La Rc Ra (pos 1) 0 → end ≡ 0 + 24 * 2 ^ count 64 (bit w) → m ≡ put l 0 (rowsBytes (walk (count 64 (bit w)) w t)) → length m ≡ length l
-        → branches ≡ (1 * 2 ^ ones w) % 2 ^ 64 → after ≡ take end m ++ zeros (length m - end)
+        → branches ≡ end / 24 → after ≡ take end m ++ zeros (length m - end)
         → Gives (multiplied Lc La Rc Ra (length l)) (wrote end branches) after
     unfolding multiplied put rows
     gives-rows t end branches m after et ee em el eb ea = record {
-      answer = rw (full, le-ltb (length l) _ room) (ap₂ wrote (at-end ∙ sym size) (eb ∙ few-rows (ones w) (length l) fit short .1 ∙ ap (λ (n : ℕ). 2 ^ n) number ∙ sym (rows-number (pos 1) full)));
+      answer = rw (full, le-ltb (length l) _ room) (ap₂ wrote (at-end ∙ sym size) (eb ∙ ap (λ (n : ℕ). n / 24) at-end ∙ mul-div-cancel-left (2 ^ count 64 (branching Lc La Rc Ra)) (lit< tt) ∙ sym (rows-number (pos 1) full)));
       bytes = ea ∙ rw (full, le-ltb (length l) _ room) (ap₂ (λ (x y : List ℕ). x ++ y)
           (ap (take end) (em ∙ ap (λ (ts : List Term). put l 0 (rowsBytes ts)) (walked t et)) ∙ take-at (rowsBytes rows) (drop (0 + length (rowsBytes rows)) l) end (size ∙ sym at-end))
           (ap₂ (λ (n k : ℕ). zeros (n - k)) el (at-end ∙ sym size)));

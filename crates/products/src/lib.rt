@@ -2,6 +2,7 @@
 ghost use mathlib.Core.Path.{_≡_};
 ghost use mathlib.Core.Bool.{not};
 ghost use Prim.Native.Nat.{ℕ, _+_, _*_, _≤_, _<_, _^_};
+ghost use lib.Count.{ones};
 ghost use lib.Dec.{leb};
 ghost use lib.IntN.{natAbs};
 ghost use lib.ListN.{length};
@@ -186,11 +187,16 @@ impl ProductHelper {
     }
 }
 
-// Do 2^n_bif rows fit in `room` bytes? A slice is shorter than 2^63 bytes, and 24 times 2^59 is not.
-fn rows_fit(n_bif: u32, room: usize) -> bool
+// Do the rows of the branching modes `left` fit in `room` bytes? A slice is shorter than 2^63 bytes, and 24 times 2^59 is
+// not. Most products have no branching mode, and their one row needs no count.
+fn rows_fit(left: u64, room: usize) -> bool
     requires { ⌜ room < 2 ^ 63 ⌝ }
-    ensures { λ r. ⌜ (r ≡ leb (24 * 2 ^ «n_bif») room) ⌝ }
+    ensures { λ r. ⌜ (r ≡ leb (24 * 2 ^ ones left) room) ⌝ }
 {
+    if left == 0 {
+        return 24 <= room;
+    }
+    let n_bif = u64::count_ones(left);
     if 58 < n_bif {
         return false;
     }
@@ -207,7 +213,7 @@ fn write_rows(helper: ProductHelper, left: u64, out: &mut [u8]) -> Written
     Written {
         refusal: Refusal::NONE,
         len: end,
-        branches: 1u64 << u64::count_ones(left),
+        branches: (end / 24) as u64,
     }
 }
 
@@ -225,7 +231,7 @@ pub fn mul_cmpnts(l_cre: u64, l_ann: u64, r_cre: u64, r_ann: u64, out: &mut [u8]
         return lent::refuse(out, Refusal::NONE);
     }
     let left = helper.bifurcations();
-    if rows_fit(u64::count_ones(left), out.len()) {
+    if rows_fit(left, out.len()) {
         return write_rows(helper, left, out);
     }
     let seven = Refusal {

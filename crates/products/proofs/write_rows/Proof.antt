@@ -1,10 +1,7 @@
 -- `products::write_rows` meets its contract: the walk's rows are the product's, and zeros stand past them.
 use mathlib.Core.Path.{refl}
-use native.Mathlib.Nat.{lt-trans}
-use lib.Count.{ones}
-use lib.Dec.{lit<}
 use lib.ListN.{length}
-use Rattle.products.proofs.Multiplied.{few-rows, short-slice, room-for, end-inside, gives-rows}
+use Rattle.products.proofs.Multiplied.{room-for, end-inside, gives-rows}
 use borrow.Author.Needs.{needs}
 use Rattle.products.proofs.write_rows.Statement.{statement}
 use Rattle.products.proofs.write_rows.Tie as tie
@@ -22,12 +19,6 @@ wipe-from-requires c κs =
     let walked = c .before .before .before .do-branch in
     end-inside (s .args .left) (length (s .args .out .now)) (walked .result) (length (walked .last .0)) (s .fits .left .fits) (s .pre .fit) (walked .ensures .0) (walked .kept .0)
 
-cast-t13 : tie.Need-cast-t13
-cast-t13 c = let s = c .before .before .before .before .before .before .before .before .before .before in record { fits = lt-trans (few-rows (ones (s .args .left)) (length (s .args .out .now)) (s .pre .fit) (short-slice (length (s .args .out .now)) (s .good .1 .1 .0 .1)) .0) (lit< tt) }
-
-shl-t14 : tie.Need-shl-t14
-shl-t14 c = let s = c .before .before .before .before .before .before .before .before .before .before in few-rows (ones (s .args .left)) (length (s .args .out .now)) (s .pre .fit) (short-slice (length (s .args .out .now)) (s .good .1 .1 .0 .1)) .0
-
 same-length : tie.Need-same-length
 same-length c = search needs
 
@@ -38,17 +29,10 @@ returns c =
     let walked = c .before .before .before .before .before .before .do-branch in
     let wiped = c .before .before .wipe-from in
     gives-rows (s .args .helper .«l_cre») (s .args .helper .«l_ann») (s .args .helper .«r_cre») (s .args .helper .«r_ann») (s .args .out .now) (s .pre .full) (s .args .left) (s .fits .left .fits) (s .pre .modes) (s .pre .fit)
-    (short-slice (length (s .args .out .now)) (s .good .1 .1 .0 .1)) (row .result) (walked .result) _ (walked .last .0) (wiped .last .0)
+    (row .result) (walked .result) _ (walked .last .0) (wiped .last .0)
     (row .ensures .0) (walked .ensures .0) (walked .ensures .1) (walked .kept .0) refl (wiped .ensures)
 
 pub write-rows-spec : {M : Type 1} → statement M
 write-rows-spec =
     tie.close
-    (tie.spec
-    lowest-row-requires
-    do-branch-requires
-    wipe-from-requires
-    cast-t13
-    shl-t14
-    same-length
-    returns)
+    (tie.spec lowest-row-requires do-branch-requires wipe-from-requires same-length returns)
