@@ -1,0 +1,87 @@
+-- Signed numbers of 64 bits: their range, and their bits.
+use Prim.Native.Nat.{ℕ, zero, suc, _+_, _-_, _≤_, _<_, _^_}
+use mathlib.Core.Path.{_≡_, refl, sym, _∙_, ap}
+use mathlib.Core.Bool.{Bool, true, false, cond, true≢false}
+use native.Mathlib.Omega.{arith}
+use native.Mathlib.Nat.{zero-add}
+use borrow.Author.Tests.{le-ltb, ltb-true}
+use lib.IntN.{ℤ, pos, negsuc, negℤ, natAbs, subℕ, _+ℤ_, _-ℤ_}
+use lib.Dec.{T, ltb}
+use lib.Signed.{mag, nonNeg, ltZ}
+use mir.Syntax.{w64}
+use mir.Val.{SFits, Fits, toZ, ofZ}
+use mir.Facts.{toZ-ofZ, toZ-pos}
+
+sub-at : (a b : ℕ) (t : Bool) → ltb a b ≡ t → a < 2 ^ 63 → b ≤ 2 ^ 63 → mag (cond t (negsuc (b - suc a)) (pos (a - b))) < 2 ^ 63
+sub-at a b true e h k = omega arith
+sub-at a b false e h k = omega arith
+
+sub-fits : (a b : ℕ) → a < 2 ^ 63 → b ≤ 2 ^ 63 → mag (subℕ a b) < 2 ^ 63
+sub-fits a b h k = sub-at a b (ltb a b) refl h k
+
+pub sum-fits : (x y : ℤ) → natAbs x + natAbs y < 2 ^ 63 → SFits w64 (x +ℤ y)
+sum-fits (pos a) (pos b) h = record { sfits = h }
+sum-fits (pos a) (negsuc b) h = record { sfits = sub-fits a (suc b) (omega arith) (omega arith) }
+sum-fits (negsuc a) (pos b) h = record { sfits = sub-fits b (suc a) (omega arith) (omega arith) }
+sum-fits (negsuc a) (negsuc b) h = record { sfits = omega arith }
+
+pub neg-fits : (x : ℤ) → natAbs x < 2 ^ 63 → SFits w64 (negℤ x)
+neg-fits (pos zero) h = record { sfits = h }
+neg-fits (pos (suc n)) h = record { sfits = omega arith }
+neg-fits (negsuc n) h = record { sfits = h }
+
+-- -1 - k, at k and at -(k + 1)
+pub less-one : (k : ℕ) → negsuc 0 -ℤ pos k ≡ negsuc k
+less-one zero = refl
+less-one (suc k) = simp zero-add
+
+pub flip : (k : ℕ) → negsuc 0 -ℤ negsuc k ≡ pos k
+flip k = simp (le-ltb (suc k) 1 (omega arith), add-sub-one)
+  where
+    add-sub-one : suc k - 1 ≡ k
+    add-sub-one = omega arith
+
+-- the code's test is on the bits
+pub tested : (z : ℤ) (t : Bool) → SFits w64 z → ltZ (toZ w64 (ofZ w64 z)) (pos 0) ≡ t → ltZ z (pos 0) ≡ t
+tested z t f e = rw (toZ-ofZ f) at e
+
+-- z below 0: -1 - z is how far z is below -1
+pub flip-fits : (z : ℤ) → SFits w64 z → ltZ z (pos 0) ≡ true → SFits w64 (negsuc 0 -ℤ z)
+flip-fits (pos n) f e = absurd (omega (arith, ltb-true n 0 e))
+flip-fits (negsuc n) f e = rw flip (record { sfits = f .sfits })
+
+pub flipped : (z : ℤ) → SFits w64 z → ltZ z (pos 0) ≡ true → toZ w64 (ofZ w64 (negsuc 0 -ℤ z)) ≡ pos (mag z)
+flipped (pos n) f e = absurd (omega (arith, ltb-true n 0 e))
+flipped (negsuc n) f e = rw flip (toZ-pos w64 (f .sfits))
+
+pub up-fits : (z : ℤ) → SFits w64 z → ltZ z (pos 0) ≡ false → T (nonNeg z) × Fits w64 (natAbs z)
+up-fits (pos n) f e = (tt, record { fits = omega (arith, f .sfits) })
+up-fits (negsuc n) f e = let w : true ≡ false = e in absurd (true≢false w)
+
+pub up : (z : ℤ) → ltZ z (pos 0) ≡ false → z ≡ pos (mag z)
+up (pos n) e = refl
+up (negsuc n) e = let w : true ≡ false = e in absurd (true≢false w)
+
+pub bits-below : (z : ℤ) → ltZ z (pos 0) ≡ true → 18446744073709551615 - mag z ≡ ofZ w64 z
+bits-below (pos n) e = absurd (omega (arith, ltb-true n 0 e))
+bits-below (negsuc n) e = omega arith
+
+pub abs-below : (z : ℤ) → ltZ z (pos 0) ≡ true → mag z + 1 ≡ natAbs z
+abs-below (pos n) e = absurd (omega (arith, ltb-true n 0 e))
+abs-below (negsuc n) e = omega arith
+
+pub bits-up : (z : ℤ) → ltZ z (pos 0) ≡ false → mag z ≡ ofZ w64 z
+bits-up z e = sym (ap (ofZ w64) (up z e))
+
+pub abs-up : (z : ℤ) → ltZ z (pos 0) ≡ false → mag z ≡ natAbs z
+abs-up z e = sym (ap natAbs (up z e))
+
+-- the upper half of the bits
+pub high : (x : ℕ) → 2 ^ 63 ≤ x → x < 2 ^ 64 → toZ w64 (18446744073709551615 - x) ≡ pos (18446744073709551615 - x)
+high x h k = toZ-pos w64 (omega arith)
+
+pub high-fits : (x : ℕ) → 2 ^ 63 ≤ x → x < 2 ^ 64 → SFits w64 (negsuc 0 -ℤ toZ w64 (18446744073709551615 - x))
+high-fits x h k = rw (high x h k, less-one) (record { sfits = omega arith })
+
+pub high-is : (x : ℕ) → 2 ^ 63 ≤ x → x < 2 ^ 64 → toZ w64 (ofZ w64 (negsuc 0 -ℤ toZ w64 (18446744073709551615 - x))) ≡ toZ w64 x
+high-is x h k = toZ-ofZ (high-fits x h k) ∙ rw (high x h k, less-one, le-ltb x (2 ^ 63) h) (ap negsuc (omega arith))
