@@ -1,6 +1,7 @@
 pub mod Terms
 pub mod Places
 pub mod Apart
+pub mod Kept
 pub mod Order
 pub mod Shuffle
 pub mod Sums
