@@ -9,7 +9,7 @@ use lib.ListN.{length, getD, take, drop, length-drop}
 use lib.Seq.{drop-cons, drop-drop, drop-at, take-at, take-nil, take-add, length-take-le, getD-drop}
 use Rattle.lent.specs.Bytes.{bytes, num, numAt, put}
 use Rattle.lent.proofs.Numbers.{length-bytes, num-bytes, bytes-num, bytes-append, num-below, num-append}
-use Rattle.lent.proofs.Puts.{take-put, drop-put, put-join}
+use Rattle.lent.proofs.Puts.{length-put, take-put, drop-put, byte-before, byte-after, put-join}
 
 -- the number that stands after the first part of a list
 pub num-at : (a b c : List ℕ) (o n : ℕ) → length a ≡ o → length b ≡ n → numAt n (a ++ (b ++ c)) o ≡ num b
@@ -53,6 +53,29 @@ pub num-put : (n : ℕ) (l : List ℕ) (o x : ℕ) → o ≤ length l → x < 25
 unfolding put
 num-put n l o x h k =
     num-at (take o l) (bytes n x) (drop (o + length (bytes n x)) l) o n (length-take-le o l h) (length-bytes n x) ∙ num-bytes n x k
+
+-- a number stored in n bytes, and what stands beside it
+module _ (n : ℕ) (l : List ℕ) (o x : ℕ) (fits : o + n ≤ length l) where
+  room : o + length (bytes n x) ≤ length l
+  room = rw (length-bytes n x) fits
+
+  past : (p : ℕ) → o + n ≤ p → o + length (bytes n x) ≤ p
+  past p h = rw (length-bytes n x) h
+
+  pub length-stored : length (put l o (bytes n x)) ≡ length l
+  length-stored = length-put l o (bytes n x) room
+
+  pub stored-before : (k p : ℕ) → p + k ≤ o → numAt k (put l o (bytes n x)) p ≡ numAt k l p
+  stored-before = num-before l o (bytes n x) room
+
+  pub stored-after : (k p : ℕ) → o + n ≤ p → numAt k (put l o (bytes n x)) p ≡ numAt k l p
+  stored-after k p h = num-after l o (bytes n x) room k p (past p h)
+
+  pub byte-stored-before : (k : ℕ) → k < o → getD (put l o (bytes n x)) k 0 ≡ getD l k 0
+  byte-stored-before = byte-before l o (bytes n x) room
+
+  pub byte-stored-after : (k : ℕ) → o + n ≤ k → getD (put l o (bytes n x)) k 0 ≡ getD l k 0
+  byte-stored-after k h = byte-after l o (bytes n x) room k (past k h)
 
 small-take : (n : ℕ) (l : List ℕ) → ((k : ℕ) → getD l k 0 < 256) → (k : ℕ) → getD (take n l) k 0 < 256
 small-take zero l h k = omega arith

@@ -1,0 +1,9 @@
+pub mod Terms
+pub mod Places
+pub mod Apart
+pub mod Kept
+pub mod Order
+pub mod Shuffle
+pub mod Sums
+pub mod Sorted
+pub mod Steps
