@@ -1,0 +1,6 @@
+pub mod Numbers
+pub mod Refusals
+pub mod Weights
+pub mod Reading
+pub mod Header
+pub mod Checking
