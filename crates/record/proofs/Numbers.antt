@@ -1,6 +1,6 @@
 -- Numbers one after the other, at any width: their bytes are read back, and what is read has these bytes.
 use mathlib.Core.Path.{_≡_, refl, sym, ap, ap₂, _∙_}
-use mathlib.Core.Bool.{Bool, true, false, _&&_, and-false}
+use mathlib.Core.Bool.{true, false, and-false}
 use mathlib.Core.List.{List, [], _∷_, _++_, append-assoc, append-nil}
 use Prim.Native.Nat.{ℕ, zero, suc, _+_, _*_, _^_, _≤_, _<_}
 use native.Mathlib.Omega.{arith}
@@ -69,18 +69,23 @@ unfolding numbers
 length-numbers w l o zero = refl
 length-numbers w l o (suc k) = ap suc (length-numbers w l (o + w) k)
 
+-- every number is below b
+pub data Below (b : ℕ) : List ℕ → Type 0 where
+  empty : Below b []
+  next : {x : ℕ} {xs : List ℕ} → x < b → Below b xs → Below b (x ∷ xs)
+
 -- numbers that fit are read back
-pub numbers-stored : (w : ℕ) (p q xs : List ℕ) (o : ℕ) → length p ≡ o → ((k : ℕ) → getD xs k 0 < 256 ^ w)
+pub numbers-stored : (w : ℕ) (p q xs : List ℕ) (o : ℕ) → length p ≡ o → Below (256 ^ w) xs
     → numbers w (p ++ (stored w xs ++ q)) o (length xs) ≡ xs
 unfolding numbers stored
-numbers-stored w p q [] o e h = refl
-numbers-stored w p q (x ∷ xs) o e h =
+numbers-stored w p q [] o e empty = refl
+numbers-stored w p q (x ∷ xs) o e (next h hs) =
     let first : p ++ ((bytes w x ++ stored w xs) ++ q) ≡ p ++ (bytes w x ++ (stored w xs ++ q)) = simp append-assoc in
     let rest : p ++ ((bytes w x ++ stored w xs) ++ q) ≡ (p ++ bytes w x) ++ (stored w xs ++ q) = simp append-assoc in
     let far : length (p ++ bytes w x) ≡ o + w = simp (length-append, length-bytes, e) in
     ap₂ {C = List ℕ} (λ (y : ℕ) (ys : List ℕ). y ∷ ys)
-    (ap (λ (z : List ℕ). numAt w z o) first ∙ num-at p (bytes w x) (stored w xs ++ q) o w e (length-bytes w x) ∙ num-bytes w x (h 0))
-    (ap (λ (z : List ℕ). numbers w z (o + w) (length xs)) rest ∙ numbers-stored w (p ++ bytes w x) q xs (o + w) far (λ k. h (suc k)))
+    (ap (λ (z : List ℕ). numAt w z o) first ∙ num-at p (bytes w x) (stored w xs ++ q) o w e (length-bytes w x) ∙ num-bytes w x h)
+    (ap (λ (z : List ℕ). numbers w z (o + w) (length xs)) rest ∙ numbers-stored w (p ++ bytes w x) q xs (o + w) far hs)
 
 -- of bytes below 256, the bytes of the numbers that were read
 pub stored-numbers : (w : ℕ) (l : List ℕ) (o k : ℕ) → o + w * k ≤ length l → ((j : ℕ) → getD l j 0 < 256)

@@ -3,6 +3,7 @@ use Prim.Native.Nat.{ℕ, _+_, _*_, _-_}
 use mathlib.Core.Bool.{Bool, true, false, cond}
 use mathlib.Core.List.{List, [], _∷_}
 use lib.Dec.{eqb, ltb, leb}
+use lib.ListN.{take, drop}
 use Rattle.modes.specs.declared.Term.{Term}
 use Rattle.record.specs.Layout.{countOf, termsOf}
 use Rattle.record.specs.Refusals.{refusalOf}
@@ -35,3 +36,7 @@ stretch n first past = cond (eqb first past) emptyStretch (record { start = 32 +
 -- of a record that is not accepted, the empty part
 unfoldable pub blockOf : List ℕ → ℕ → Stretch
 blockOf l a = cond (eqb ((refusalOf 1 l) .number) 0) (stretch (countOf l) (firstOf l a) (pastOf l a)) emptyStretch
+
+-- the bytes of a stretch
+abbrev pub bytesIn : Stretch → List ℕ → List ℕ
+bytesIn s l = take (s .len) (drop (s .start) l)

@@ -10,6 +10,7 @@ use Rattle.modes.specs.declared.Term.{Term}
 use Rattle.modes.specs.declared.Refusal.{Refusal}
 use Rattle.record.specs.Layout.{termsOf}
 use Rattle.record.specs.Refusals.{refusalOf}
+use Rattle.record.specs.declared.Figures.{Figures}
 use Rattle.record.specs.declared.Tested.{Tested}
 use Rattle.record.specs.declared.Measured.{Measured}
 
@@ -19,10 +20,13 @@ creations t = count 64 (bit (t .cre))
 abbrev pub annihilations : Term → ℕ
 annihilations t = count 64 (bit (t .ann))
 
--- every term has as many creations as annihilations
+-- as many creations as annihilations; and so in every term
+abbrev pub conserves : Term → Bool
+conserves t = eqb (creations t) (annihilations t)
+
 unfoldable pub conserving : List Term → Bool
 conserving [] = true
-conserving (t ∷ ts) = eqb (creations t) (annihilations t) && conserving ts
+conserving (t ∷ ts) = conserves t && conserving ts
 
 -- the rank of a term: creations plus annihilations, halved, rounded down
 unfoldable pub rankOf : Term → ℕ
@@ -38,18 +42,18 @@ unfoldable pub allModes : List Term → ℕ
 allModes [] = 0
 allModes (t ∷ ts) = bitOr (bitOr (t .cre) (t .ann)) (allModes ts)
 
--- an answer to a question about a record: false or 0 where it is refused
-abbrev pub testedAs : Refusal → Bool → Tested
-testedAs r b = record { refusal = r; holds = eqb (r .number) 0 && b }
+-- the three together, all false and 0 after the refusal r
+abbrev pub figuresOf : Refusal → List Term → Figures
+figuresOf r ts =
+    let ok = eqb (r .number) 0 in
+    record { refusal = r; conserving = ok && conserving ts; rank = cond ok (largestRank ts) 0; modes = cond ok (allModes ts) 0 }
 
-abbrev pub measuredAs : Refusal → ℕ → Measured
-measuredAs r x = record { refusal = r; value = cond (eqb (r .number) 0) x 0 }
-
+-- what each call answers of a record
 abbrev pub conservesOf : List ℕ → Tested
-conservesOf l = testedAs (refusalOf 1 l) (conserving (termsOf l))
+conservesOf l = let f = figuresOf (refusalOf 1 l) (termsOf l) in record { refusal = f .refusal; holds = f .conserving }
 
 abbrev pub maxNBodyOf : List ℕ → Measured
-maxNBodyOf l = measuredAs (refusalOf 1 l) (largestRank (termsOf l))
+maxNBodyOf l = let f = figuresOf (refusalOf 1 l) (termsOf l) in record { refusal = f .refusal; value = f .rank }
 
 abbrev pub activeModesOf : List ℕ → Measured
-activeModesOf l = measuredAs (refusalOf 1 l) (allModes (termsOf l))
+activeModesOf l = let f = figuresOf (refusalOf 1 l) (termsOf l) in record { refusal = f .refusal; value = f .modes }

@@ -18,8 +18,8 @@ Above t ts = Every (λ u. before t u ≡ true) ts
 
 -- the terms strictly ascend
 pub data Ascending : List Term → Type 0 where
-  none : Ascending []
-  more : {t : Term} {ts : List Term} → Above t ts → Ascending ts → Ascending (t ∷ ts)
+  empty : Ascending []
+  above : {t : Term} {ts : List Term} → Above t ts → Ascending ts → Ascending (t ∷ ts)
 
 -- the exact sum of magnitudes
 unfoldable pub weight : List Term → ℕ

@@ -6,17 +6,21 @@ use modes::Refusal;
 use modes::Term;
 ghost use mathlib.Core.Path.{_≡_};
 ghost use mathlib.Core.Bool.{true, false, _||_};
-ghost use Prim.Native.Nat.{_+_, _*_, _-_, _≤_, _<_, _^_};
+ghost use Prim.Native.Nat.{_+_, _*_, _-_, _≤_, _<_, _^_, max};
 ghost use lib.IntN.{natAbs};
 ghost use lib.ListN.{length, take, drop};
 ghost use Rattle.lent.specs.Bytes.{put};
-ghost use Rattle.modes.specs.Answers.{refusal};
+ghost use Rattle.modes.specs.Words.{bit};
+ghost use Rattle.modes.specs.Counts.{count};
+ghost use Rattle.modes.specs.Answers.{refusal, none};
 ghost use Rattle.record.specs.Numbers.{numbers, sameNumbers};
-ghost use Rattle.record.specs.Terms.{before};
-ghost use Rattle.record.specs.Layout.{fields, header, modesOf, countOf, termsIn, laidOut, putTerm};
-ghost use Rattle.record.specs.Refusals.{termRefusal, refusedRecord, checkedOf};
+ghost use Rattle.record.specs.Terms.{before, Ascending};
+ghost use Rattle.record.specs.Layout.{fields, header, modesOf, countOf, termsIn, termsOf, laidOut, putTerm};
+ghost use Rattle.record.specs.Refusals.{termRefusal, refusalOf, refusedRecord, checkedOf};
 ghost use Rattle.record.specs.Reading.{At};
 ghost use Rattle.record.specs.Weights.{heavierBy};
+ghost use Rattle.record.specs.Blocks.{upTo, countIf, blockOf, bytesIn};
+ghost use Rattle.record.specs.Figures.{rankOf, conserves, figuresOf, conservesOf, maxNBodyOf, activeModesOf};
 
 // The most terms and the largest weight that a record may have.
 pub const MOST_TERMS: usize = 2048;
@@ -276,4 +280,176 @@ pub fn put_term(out: &mut [u8], n: usize, k: usize, t: Term)
     lent::put_word(out, 32 + 8 * k, t.ann);
     lent::put_word(out, 32 + 8 * n + 8 * k, t.cre);
     lent::put_word(out, 32 + 16 * n + 8 * k, lent::bits(t.coeff));
+}
+
+// Does t stand before the terms with the annihilation word `ann`, or, with `past`, not after them?
+fn is_up_to(past: bool, ann: u64, t: Term) -> bool
+    ensures { λ r. ⌜ r ≡ upTo past ann t ⌝ }
+{
+    if past {
+        return t.ann <= ann;
+    }
+    t.ann < ann
+}
+
+// How many of the n terms these are, found by halving.
+fn count_up_to(s: &[u8], n: usize, past: bool, ann: u64) -> usize
+    requires { ⌜ (32 + 24 * n ≤ length (now s)) × Ascending (termsIn (now s) n) ⌝ }
+    ensures { λ r. ⌜ r ≡ countIf (upTo past ann) (termsIn (now (s .entry)) n) ⌝ }
+{
+    let mut low = 0;
+    let mut high = n;
+    while low < high {
+        let middle = low + (high - low) / 2;
+        let t = read_term(s, n, middle);
+        if is_up_to(past, ann, t) {
+            low = middle + 1;
+        } else {
+            high = middle;
+        }
+    }
+    low
+}
+
+// Where the creations of the terms with the annihilation word `ann` stand in the record's bytes.
+pub fn block_bounds(s: &[u8], ann: u64) -> Stretch
+    ensures { λ r. ⌜ r ≡ blockOf (now (s .entry)) ann ⌝ }
+{
+    let c = check(s, 1);
+    if c.refusal.number != 0 {
+        return Stretch { start: 0, len: 0 };
+    }
+    let n = c.terms;
+    let first = count_up_to(s, n, false, ann);
+    let past = count_up_to(s, n, true, ann);
+    if first == past {
+        return Stretch { start: 0, len: 0 };
+    }
+    Stretch {
+        start: 32 + 8 * n + 8 * first,
+        len: 8 * (past - first),
+    }
+}
+
+// The creations of the terms with the annihilation word `ann`, as a part of the caller's own record: the empty part if
+// there are none, or the record is not accepted.
+pub fn block(s: &[u8], ann: u64) -> &[u8]
+    ensures { λ r. ⌜ now r ≡ bytesIn (blockOf (now (s .entry)) ann) (now (s .entry)) ⌝ }
+{
+    let b = block_bounds(s, ann);
+    let start = b.start;
+    let end = start + b.len;
+    &s[start..end]
+}
+
+// How many modes the word holds.
+fn modes_in(word: u64) -> u64
+    ensures { λ r. ⌜ (r ≡ count 64 (bit word)) × (r ≤ 64) ⌝ }
+{
+    u64::count_ones(word) as u64
+}
+
+// The rank of a term: creations plus annihilations, halved, rounded down.
+pub fn rank(t: Term) -> u64
+    ensures { λ r. ⌜ r ≡ rankOf t ⌝ }
+{
+    (modes_in(t.cre) + modes_in(t.ann)) / 2
+}
+
+fn is_conserving(t: Term) -> bool
+    ensures { λ r. ⌜ r ≡ conserves t ⌝ }
+{
+    modes_in(t.cre) == modes_in(t.ann)
+}
+
+fn larger(x: u64, y: u64) -> u64
+    ensures { λ r. ⌜ r ≡ max x y ⌝ }
+{
+    if x < y { y } else { x }
+}
+
+// What the terms of a record have in common: conservation, the largest rank, and all modes.
+struct Figures {
+    refusal: Refusal,
+    conserving: bool,
+    rank: u64,
+    modes: u64,
+}
+
+// The figures of n terms, in one walk.
+fn survey_terms(s: &[u8], n: usize) -> Figures
+    requires { ⌜ 32 + 24 * n ≤ length (now s) ⌝ }
+    ensures { λ r. ⌜ r ≡ figuresOf none (termsIn (now (s .entry)) n) ⌝ }
+{
+    let mut conserving = true;
+    let mut largest = 0;
+    let mut modes = 0;
+    let mut i = 0;
+    while i < n {
+        let t = read_term(s, n, i);
+        conserving = conserving & is_conserving(t);
+        largest = larger(largest, rank(t));
+        modes = modes | (t.cre | t.ann);
+        i += 1;
+    }
+    Figures {
+        refusal: Refusal::NONE,
+        conserving,
+        rank: largest,
+        modes,
+    }
+}
+
+// The figures of a record, or its refusal.
+fn survey(s: &[u8]) -> Figures
+    ensures { λ r. ⌜ r ≡ figuresOf (refusalOf 1 (now (s .entry))) (termsOf (now (s .entry))) ⌝ }
+{
+    let c = check(s, 1);
+    if c.refusal.number != 0 {
+        let refusal = c.refusal;
+        return Figures {
+            refusal,
+            conserving: false,
+            rank: 0,
+            modes: 0,
+        };
+    }
+    let n = c.terms;
+    survey_terms(s, n)
+}
+
+// Has every term as many creations as annihilations?
+pub fn conserves_particle_number(s: &[u8]) -> Tested
+    ensures { λ r. ⌜ r ≡ conservesOf (now (s .entry)) ⌝ }
+{
+    let f = survey(s);
+    let refusal = f.refusal;
+    Tested {
+        refusal,
+        holds: f.conserving,
+    }
+}
+
+// The largest rank of the terms, 0 for no terms.
+pub fn max_n_body(s: &[u8]) -> Measured
+    ensures { λ r. ⌜ r ≡ maxNBodyOf (now (s .entry)) ⌝ }
+{
+    let f = survey(s);
+    let refusal = f.refusal;
+    Measured {
+        refusal,
+        value: f.rank,
+    }
+}
+
+// The union of all words.
+pub fn active_modes(s: &[u8]) -> Measured
+    ensures { λ r. ⌜ r ≡ activeModesOf (now (s .entry)) ⌝ }
+{
+    let f = survey(s);
+    let refusal = f.refusal;
+    Measured {
+        refusal,
+        value: f.modes,
+    }
 }

@@ -1,6 +1,6 @@
 -- `record::check` meets its contract, for any bytes.
 use native.Mathlib.Omega.{arith}
-use mathlib.Core.Path.{_≡_, sym, ap, _∙_}
+use mathlib.Core.Path.{sym, _∙_}
 use borrow.Author.Tests.{not-true, not-false}
 use Rattle.record.proofs.Header.{laid}
 use Rattle.record.proofs.Checking.{refused-is, not-laid}

@@ -1,7 +1,7 @@
 -- `record::check_terms` meets its contract. The invariant: what the terms so far leave of the refusal, and their weight.
 use borrow.Author.Needs.{needs}
 use native.Mathlib.Omega.{arith}
-use mathlib.Core.Path.{_≡_, sym, ap, _∙_}
+use mathlib.Core.Path.{ap, _∙_}
 use mathlib.Core.Bool.{Bool}
 use Prim.Native.Nat.{_-_, _≤_}
 use Rattle.record.specs.Layout.{termsIn}

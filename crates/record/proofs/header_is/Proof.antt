@@ -2,7 +2,6 @@
 use mathlib.Core.Bool.{and-true}
 use mathlib.Core.Path.{sym, _∙_}
 use borrow.Author.Tests.{eq-eqb}
-use lib.Dec.{eqb}
 use Rattle.record.specs.Numbers.{numbers, sameNumbers}
 use Rattle.record.proofs.Numbers.{differ-at}
 use borrow.Author.Needs.{needs}

@@ -1,11 +1,10 @@
 -- `record::laid_out` meets its contract.
-use mathlib.Core.Path.{ap₂}
+use mathlib.Core.Path.{ap₂, sym, ap, _∙_}
 use Prim.Native.Nat.{ℕ}
 use Rattle.modes.specs.Spaces.{spaceOf}
 use Rattle.record.specs.Numbers.{numbers, sameNumbers}
 use Rattle.record.specs.Layout.{fields, isMade}
 use native.Mathlib.Omega.{arith}
-use mathlib.Core.Path.{_≡_, refl, sym, ap, _∙_}
 use Rattle.record.proofs.Header.{other-length, no-space, too-many, header-decides}
 use borrow.Author.Needs.{needs}
 use Rattle.record.proofs.laid_out.Statement.{statement}

@@ -1,5 +1,5 @@
 -- `record::term_refusal` meets its contract: 2 before 3 before 4.
-use mathlib.Core.Path.{_≡_, sym, _∙_}
+use mathlib.Core.Path.{sym, _∙_}
 use borrow.Author.Tests.{not-true, not-false}
 use Rattle.record.proofs.Refusals.{ann-outside, cre-outside, not-above, zero-coefficient, right-term}
 use borrow.Author.Needs.{needs}
