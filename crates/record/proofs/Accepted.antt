@@ -1,0 +1,198 @@
+-- What is accepted is canonical, and what is canonical is not refused.
+use mathlib.Core.Path.{_≡_, refl, sym, ap, _∙_}
+use mathlib.Core.Bool.{Bool, true, false, cond, _&&_}
+use mathlib.Core.List.{List, [], _∷_}
+use Prim.Native.Nat.{ℕ, suc, _+_, _*_, _^_, _≤_}
+use native.Mathlib.Omega.{arith}
+use lib.Dec.{eqb, ltb, leb}
+use lib.IntN.{ℤ, pos, negsuc, natAbs}
+use lib.ListN.{length}
+use borrow.Author.Tests.{ne-eqb, lt-ltb, eqb-true, eqb-false, ltb-true, leb-true, le-leb}
+use Rattle.modes.specs.declared.Term.{Term}
+use Rattle.modes.specs.declared.Refusal.{Refusal}
+use Rattle.modes.specs.Answers.{refusal, none as unrefused}
+use Rattle.lent.specs.Every.{Every, none, more}
+use Rattle.record.specs.Terms.{before, Above, Ascending, empty, above, weight}
+use Rattle.record.specs.Layout.{laidOut, modesOf, countOf, termsIn, termsOf}
+use Rattle.record.specs.Refusals.{orElse, inside, termRefusal, termsRefusal, refusalOf, acceptedRecord, refusedRecord, checkedOf}
+use Rattle.record.specs.Canonical.{Inside, Nonzero, Canonical}
+use Rattle.record.specs.declared.Checked.{Checked}
+use Rattle.record.proofs.Refusals.{or-second}
+use Rattle.record.proofs.Order.{above-trans}
+use Rattle.record.proofs.Header.{Laid, laid}
+use Rattle.record.proofs.Reading.{length-terms}
+
+-- ---- refusals whose number is 0
+
+pub neither : (r s : Refusal) → (orElse r s) .number ≡ 0 → (r .number ≡ 0) × (s .number ≡ 0)
+unfolding orElse
+neither r s e = go (eqb (r .number) 0) refl e
+  where
+    go : (b : Bool) → eqb (r .number) 0 ≡ b → (cond b s r) .number ≡ 0 → (r .number ≡ 0) × (s .number ≡ 0)
+    go true q z = (eqb-true _ _ q, z)
+    go false q z = absurd (eqb-false _ _ q z)
+
+pub abs-zero : (z : ℤ) → natAbs z ≡ 0 → z ≡ pos 0
+abs-zero (pos n) e = ap pos e
+abs-zero (negsuc n) e = absurd (omega arith)
+
+pub abs-nonzero : (z : ℤ) → (z ≡ pos 0 → ⊥) → natAbs z ≡ 0 → ⊥
+abs-nonzero z h e = h (abs-zero z e)
+
+-- a term that may stand where it stands
+pub record Right (m : ℕ) (up : Bool) (t : Term) : Type 0 where
+  pub inside : Inside m t
+  pub above : up ≡ true
+  pub nonzero : Nonzero t
+
+pub term-right : (o m i : ℕ) (up : Bool) (t : Term) → (termRefusal o m i up t) .number ≡ 0 → Right m up t
+unfolding termRefusal inside
+term-right o m i up t e = go (ltb (t .ann) (2 ^ m)) (ltb (t .cre) (2 ^ m)) up (eqb (natAbs (t .coeff)) 0) refl refl refl refl e
+  where
+    go : (a c u z : Bool) → ltb (t .ann) (2 ^ m) ≡ a → ltb (t .cre) (2 ^ m) ≡ c → up ≡ u → eqb (natAbs (t .coeff)) 0 ≡ z
+        → (cond (a && c) (cond u (cond z (refusal 4 o i) unrefused) (refusal 3 o i)) (refusal 2 o i)) .number ≡ 0 → Right m up t
+    go true true true false p q r s e =
+        record {
+          inside = record { ann = ltb-true _ _ p; cre = ltb-true _ _ q };
+          above = r;
+          nonzero = λ h. absurd (eqb-false _ _ s (ap natAbs h));
+        }
+    go true true true true p q r s e = absurd (omega arith)
+    go true true false z p q r s e = absurd (omega arith)
+    go true false u z p q r s e = absurd (omega arith)
+    go false c u z p q r s e = absurd (omega arith)
+
+right-none : (o m i : ℕ) (up : Bool) (t : Term) → Right m up t → termRefusal o m i up t ≡ unrefused
+unfolding termRefusal inside
+right-none o m i up t r =
+    rw (lt-ltb _ _ (r .inside .ann), lt-ltb _ _ (r .inside .cre), r .above, ne-eqb _ _ (abs-nonzero (t .coeff) (r .nonzero)))
+
+-- the first term may stand where it stands
+abbrev pub Begins : (Term → Bool) → List Term → Type 0
+Begins up [] = Unit {0}
+Begins up (t ∷ ts) = up t ≡ true
+
+above-all : (t : Term) (ts : List Term) → Begins (before t) ts → Ascending ts → Above t ts
+above-all t [] h empty = none
+above-all t (u ∷ ts) h (above a s) = more h (above-trans t u ts h a)
+
+above-first : (t : Term) (ts : List Term) → Above t ts → Begins (before t) ts
+above-first t [] none = tt
+above-first t (u ∷ ts) (more h a) = h
+
+pub record AllRight (m : ℕ) (up : Term → Bool) (ts : List Term) : Type 0 where
+  pub begins : Begins up ts
+  pub inside : Every (Inside m) ts
+  pub ascending : Ascending ts
+  pub nonzero : Every Nonzero ts
+
+pub all-right : (o m i : ℕ) (up : Term → Bool) (ts : List Term) → (termsRefusal o m i up ts) .number ≡ 0 → AllRight m up ts
+unfolding termsRefusal
+all-right o m i up [] e = record { begins = tt; inside = none; ascending = empty; nonzero = none }
+all-right o m i up (t ∷ ts) e =
+    let both = neither (termRefusal o m i (up t) t) (termsRefusal o m (suc i) (before t) ts) e in
+    let first = term-right o m i (up t) t (both .0) in
+    let rest = all-right o m (suc i) (before t) ts (both .1) in
+    record {
+      begins = first .above;
+      inside = more (first .inside) (rest .inside);
+      ascending = above (above-all t ts (rest .begins) (rest .ascending)) (rest .ascending);
+      nonzero = more (first .nonzero) (rest .nonzero);
+    }
+
+pub none-refused : (o m i : ℕ) (up : Term → Bool) (ts : List Term) → Begins up ts → Every (Inside m) ts → Ascending ts → Every Nonzero ts
+    → termsRefusal o m i up ts ≡ unrefused
+unfolding termsRefusal
+none-refused o m i up [] b none empty none = refl
+none-refused o m i up (t ∷ ts) b (more h hs) (above a s) (more n ns) =
+    rw (right-none o m i (up t) t (record { inside = h; above = b; nonzero = n })) (or-second unrefused _ refl ∙ none-refused o m (suc i) (before t) ts (above-first t ts a) hs s ns)
+
+-- ---- the record
+
+module _ (o : ℕ) (l : List ℕ) (e : (refusalOf o l) .number ≡ 0) where
+  laid-number : (cond (laidOut l) unrefused (refusal 1 o 0)) .number ≡ 0
+  unfolding refusalOf
+  laid-number = neither _ _ e .0
+
+  rest-number : (orElse (termsRefusal o (modesOf l) 0 (λ _. true) (termsOf l)) (cond (leb (weight (termsOf l)) (2 ^ 60)) unrefused (refusal 5 o 0))) .number ≡ 0
+  unfolding refusalOf
+  rest-number = neither _ _ e .1
+
+  is-laid : laidOut l ≡ true
+  is-laid = go (laidOut l) laid-number
+    where
+      go : (b : Bool) → (cond b unrefused (refusal 1 o 0)) .number ≡ 0 → b ≡ true
+      go true z = refl
+      go false z = absurd (omega arith)
+
+  is-light : weight (termsOf l) ≤ 2 ^ 60
+  is-light = go (leb (weight (termsOf l)) (2 ^ 60)) refl (neither _ _ rest-number .1)
+    where
+      go : (b : Bool) → leb (weight (termsOf l)) (2 ^ 60) ≡ b → (cond b unrefused (refusal 5 o 0)) .number ≡ 0 → weight (termsOf l) ≤ 2 ^ 60
+      go true q z = leb-true _ _ q
+      go false q z = absurd (omega arith)
+
+  right : AllRight (modesOf l) (λ _. true) (termsOf l)
+  right = all-right o (modesOf l) 0 (λ _. true) (termsOf l) (neither _ _ rest-number .0)
+
+  pub accepted-laid : Laid l
+  accepted-laid = laid l is-laid
+
+  -- what is accepted ascends, has no zeros, and is in range
+  pub accepted-canonical : Canonical (modesOf l) (termsOf l)
+  accepted-canonical =
+      record {
+        some = accepted-laid .some;
+        most = accepted-laid .most;
+        few = rw (length-terms l (countOf l)) (accepted-laid .few);
+        inside = right .inside;
+        ascending = right .ascending;
+        nonzero = right .nonzero;
+        light = is-light;
+      }
+
+  -- a number of 0 is no refusal
+  pub accepted-none : refusalOf o l ≡ unrefused
+  unfolding refusalOf
+  accepted-none =
+      rw (is-laid, none-refused o (modesOf l) 0 (λ _. true) (termsOf l) (right .begins) (right .inside) (right .ascending) (right .nonzero), le-leb _ _ is-light)
+      (or-second unrefused _ refl ∙ or-second unrefused _ refl)
+
+-- a check that found none
+pub record Accepted (o : ℕ) (l : List ℕ) (c : Checked) : Type 0 where
+  pub laid : Laid l
+  pub canonical : Canonical (modesOf l) (termsOf l)
+  pub none : refusalOf o l ≡ unrefused
+  pub is : c ≡ acceptedRecord l
+  -- the terms of the number that the check answers
+  pub terms : termsIn l (c .terms) ≡ termsOf l
+
+pub accepted : (o : ℕ) (l : List ℕ) (c : Checked) → c ≡ checkedOf o l → c .refusal .number ≡ 0 → Accepted o l c
+unfolding checkedOf
+accepted o l c e z = go (eqb ((refusalOf o l) .number) 0) refl e
+  where
+    go : (b : Bool) → eqb ((refusalOf o l) .number) 0 ≡ b → c ≡ cond b (acceptedRecord l) (refusedRecord (refusalOf o l)) → Accepted o l c
+    go true q p =
+        let n = eqb-true _ _ q in
+        record {
+          laid = accepted-laid o l n;
+          canonical = accepted-canonical o l n;
+          none = accepted-none o l n;
+          is = p;
+          terms = ap (λ (d : Checked). termsIn l (d .terms)) p;
+        }
+    go false q p = absurd (eqb-false _ _ q (ap (λ (d : Checked). d .refusal .number) (sym p) ∙ z))
+
+-- its terms can be read, and they ascend
+pub readable : (o : ℕ) (l : List ℕ) (c : Checked) → Accepted o l c → (32 + 24 * c .terms ≤ length l) × Ascending (termsIn l (c .terms))
+readable o l c k =
+    (omega (arith, k .laid .size, ap (λ (d : Checked). d .terms) (k .is)), rw (k .terms) (k .canonical .ascending))
+
+-- a check that refuses
+pub refused : (o : ℕ) (l : List ℕ) (c : Checked) → c ≡ checkedOf o l → (c .refusal .number ≡ 0 → ⊥) → c ≡ refusedRecord (refusalOf o l)
+unfolding checkedOf
+refused o l c e h = go (eqb ((refusalOf o l) .number) 0) refl e
+  where
+    go : (b : Bool) → eqb ((refusalOf o l) .number) 0 ≡ b → c ≡ cond b (acceptedRecord l) (refusedRecord (refusalOf o l)) → c ≡ refusedRecord (refusalOf o l)
+    go true q p = absurd (h (ap (λ (d : Checked). d .refusal .number) p))
+    go false q p = p

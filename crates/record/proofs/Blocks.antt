@@ -1,0 +1,266 @@
+-- The terms with one annihilation word in an ascending list: halving finds them, and their stretch holds their creations.
+use mathlib.Core.Path.{_≡_, refl, sym, ap, _∙_}
+use mathlib.Core.Bool.{Bool, true, false, cond, true≢false}
+use mathlib.Core.List.{List, [], _∷_, _++_, map}
+use mathlib.Core.Logic.{_⊎_, inl, inr}
+use Prim.Native.Nat.{ℕ, zero, suc, _+_, _*_, _-_, _≤_, _<_, zero-le}
+use native.Mathlib.Omega.{arith}
+use native.Mathlib.Nat.{mul-suc}
+use native.Mathlib.Numerals.{add-one}
+use lib.Dec.{eqb, ltb, leb}
+use lib.ListN.{length, take, drop, take-append-drop}
+use lib.Seq.{drop-nil, take-nil, take-take, drop-drop, take-append-add, drop-append-add}
+use borrow.Author.Tests.{eq-eqb, ne-eqb, lt-ltb, le-ltb, le-leb, lt-leb, ltb-true, leb-true, eqb-true}
+use Rattle.modes.specs.declared.Term.{Term}
+use Rattle.modes.proofs.Digits.{lt-or-ge}
+use Rattle.lent.specs.Bytes.{bytes}
+use Rattle.lent.specs.Every.{none, more}
+use Rattle.lent.proofs.Numbers.{length-bytes}
+use Rattle.record.specs.Numbers.{stored}
+use Rattle.record.specs.Terms.{before, Above, Ascending, empty, above}
+use Rattle.record.specs.Layout.{column, countOf, termsIn, termsOf}
+use Rattle.record.specs.Refusals.{refusalOf}
+use Rattle.record.specs.Reading.{At}
+use Rattle.record.specs.Blocks.{countIf, upTo, firstOf, pastOf, emptyStretch, stretch, blockOf, bytesIn}
+use Rattle.record.specs.declared.Stretch.{Stretch}
+use Rattle.record.specs.declared.Checked.{Checked}
+use Rattle.record.proofs.Reading.{length-terms}
+use Rattle.record.proofs.Accepted.{Accepted, accepted-laid, accepted-canonical}
+use Rattle.record.proofs.Inverse.{Small, creations-read}
+use Rattle.record.proofs.Order.{Order, lower, level, order}
+
+-- ---- counting
+
+pub count-append : (p : Term → Bool) (ts us : List Term) → countIf p (ts ++ us) ≡ countIf p ts + countIf p us
+unfolding countIf
+count-append p [] us = omega arith
+count-append p (t ∷ ts) us = rw (count-append p ts us) (omega arith)
+
+pub count-length : (p : Term → Bool) (ts : List Term) → countIf p ts ≤ length ts
+unfolding countIf
+count-length p [] = zero-le
+count-length p (t ∷ ts) = go (p t) (count-length p ts)
+  where
+    go : (b : Bool) → countIf p ts ≤ length ts → cond b 1 0 + countIf p ts ≤ suc (length ts)
+    go true h = omega arith
+    go false h = omega arith
+
+count-more : (p q : Term → Bool) (ts : List Term) → ((t : Term) → p t ≡ true → q t ≡ true) → countIf p ts ≤ countIf q ts
+unfolding countIf
+count-more p q [] h = zero-le
+count-more p q (t ∷ ts) h = go (p t) (q t) (h t) (count-more p q ts h)
+  where
+    go : (a b : Bool) → (a ≡ true → b ≡ true) → countIf p ts ≤ countIf q ts → cond a 1 0 + countIf p ts ≤ cond b 1 0 + countIf q ts
+    go true true k l = omega arith
+    go true false k l = absurd (true≢false (sym (k refl)))
+    go false true k l = omega arith
+    go false false k l = omega arith
+
+pub first-below-past : (a : ℕ) (ts : List Term) → countIf (upTo false a) ts ≤ countIf (upTo true a) ts
+first-below-past a ts = count-more (upTo false a) (upTo true a) ts (λ t e. le-leb (t .ann) a (omega (arith, ltb-true (t .ann) a e)))
+
+-- what holds of a term holds of those before it
+abbrev Downward : (Term → Bool) → Type 0
+Downward p = (t u : Term) → before t u ≡ true → p u ≡ true → p t ≡ true
+
+ann-below : (t u : Term) → before t u ≡ true → t .ann ≤ u .ann
+ann-below t u e = go (order t u e)
+  where
+    go : Order t u → t .ann ≤ u .ann
+    go (lower h) = omega arith
+    go (level q h) = omega arith
+
+up-to-downward : (past : Bool) (a : ℕ) → Downward (upTo past a)
+up-to-downward true a t u e h = le-leb (t .ann) a (omega (arith, ann-below t u e, leb-true (u .ann) a h))
+up-to-downward false a t u e h = lt-ltb (t .ann) a (omega (arith, ann-below t u e, ltb-true (u .ann) a h))
+
+above-at : (x t : Term) (ts us : List Term) (i : ℕ) → Above x ts → drop i ts ≡ t ∷ us → before x t ≡ true
+above-at x t [] us i none e = let z : _≡_ {A = List Term} [] (t ∷ us) = sym (drop-nil i) ∙ e in let w : _≡_ {A = ℕ} 0 1 = cc in absurd (omega arith)
+above-at x t (u ∷ ts) us zero (more h a) e = let w : u ≡ t = cc in rw w at h
+above-at x t (u ∷ ts) us (suc i) (more h a) e = above-at x t ts us i a e
+
+module _ (p : Term → Bool) (down : Downward p) where
+  -- what holds of a term holds of all up to it
+  all-before : (ts us : List Term) (t : Term) (i : ℕ) → Ascending ts → drop i ts ≡ t ∷ us → p t ≡ true → countIf p (take (suc i) ts) ≡ suc i
+  unfolding countIf
+  all-before [] us t i empty e h =
+      let z : _≡_ {A = List Term} [] (t ∷ us) = sym (drop-nil i) ∙ e in let w : _≡_ {A = ℕ} 0 1 = cc in absurd (omega arith)
+  all-before (x ∷ ts) us t zero (above a s) e h = let w : x ≡ t = cc in let q : p x ≡ true = ap p w ∙ h in rw q
+  all-before (x ∷ ts) us t (suc i) (above a s) e h =
+      let q : p x ≡ true = down x t (above-at x t ts us i a e) h in rw (q, all-before ts us t i s e h) (omega arith)
+
+  none-above : (t : Term) (ts : List Term) → p t ≡ false → Above t ts → countIf p ts ≡ 0
+  unfolding countIf
+  none-above t [] h none = refl
+  none-above t (u ∷ ts) h (more b a) = go (none-above t ts h a) (p u) refl
+    where
+      go : countIf p ts ≡ 0 → (c : Bool) → p u ≡ c → cond c 1 0 + countIf p ts ≡ 0
+      go ih true e = absurd (true≢false (sym (down t u b e) ∙ h))
+      go ih false e = omega arith
+
+  -- what does not hold of a term holds of none after it
+  none-after : (ts us : List Term) (t : Term) (i : ℕ) → Ascending ts → drop i ts ≡ t ∷ us → p t ≡ false → countIf p (drop i ts) ≡ 0
+  unfolding countIf
+  none-after [] us t i empty e h =
+      let z : _≡_ {A = List Term} [] (t ∷ us) = sym (drop-nil i) ∙ e in let w : _≡_ {A = ℕ} 0 1 = cc in absurd (omega arith)
+  none-after (x ∷ ts) us t zero (above a s) e h =
+      let w : x ≡ t = cc in let q : p x ≡ false = ap p w ∙ h in let r = none-above x ts q a in rw q (omega arith)
+  none-after (x ∷ ts) us t (suc i) (above a s) e h = none-after ts us t i s e h
+
+-- ---- halving: it holds of the first low terms, and of none from the high-th on
+
+pub record Halving (p : Term → Bool) (ts : List Term) (low high : ℕ) : Type 0 where
+  pub before : countIf p (take low ts) ≡ low
+  pub after : countIf p (drop high ts) ≡ 0
+
+pub halving-starts : (p : Term → Bool) (ts : List Term) (n : ℕ) → drop n ts ≡ [] → Halving p ts 0 n
+unfolding countIf
+halving-starts p ts n e = record { before = refl; after = rw e }
+
+module _ (past : Bool) (a : ℕ) (ts : List Term) (s : Ascending ts) (low high i : ℕ) (t : Term) (at : At ts i t) (g : Halving (upTo past a) ts low high) where
+  pub halving-up : upTo past a t ≡ true → Halving (upTo past a) ts (i + 1) high
+  halving-up h =
+      record { before = rw (add-one i) (all-before (upTo past a) (up-to-downward past a) ts _ t i s at h); after = g .after }
+
+  pub halving-down : upTo past a t ≡ false → Halving (upTo past a) ts low i
+  halving-down h = record { before = g .before; after = none-after (upTo past a) (up-to-downward past a) ts _ t i s at h }
+
+pub halving-ends : (p : Term → Bool) (ts : List Term) (low high : ℕ) → high ≡ low → Halving p ts low high → low ≡ countIf p ts
+halving-ends p ts low high e g =
+    let after : countIf p (drop low ts) ≡ 0 = ap (λ (k : ℕ). countIf p (drop k ts)) (sym e) ∙ g .after in
+    sym (ap (countIf p) (sym (take-append-drop low ts)) ∙ count-append p (take low ts) (drop low ts) ∙ omega (arith, g .before))
+
+-- ---- the bounds
+
+pub past-inside : (l : List ℕ) (n a : ℕ) (past : Bool) → countIf (upTo past a) (termsIn l n) ≤ n
+past-inside l n a past = let h = count-length (upTo past a) (termsIn l n) in let e = length-terms l n in omega arith
+
+pub stretch-none : (n f p : ℕ) → f ≡ p → emptyStretch ≡ stretch n f p
+stretch-none n f p e = rw (eq-eqb _ _ e)
+
+pub stretch-some : (n f p : ℕ) → (f ≡ p → ⊥) → _≡_ {A = Stretch} (record { start = 32 + 8 * n + 8 * f; len = 8 * (p - f) }) (stretch n f p)
+stretch-some n f p h = rw (ne-eqb _ _ h)
+
+pub block-refused : (l : List ℕ) (a : ℕ) → ((refusalOf 1 l) .number ≡ 0 → ⊥) → emptyStretch ≡ blockOf l a
+unfolding blockOf
+block-refused l a h = rw (ne-eqb _ _ h)
+
+pub block-found : (l : List ℕ) (a : ℕ) (c : Checked) → Accepted 1 l c → (f p : ℕ) → f ≡ countIf (upTo false a) (termsIn l (c .terms))
+    → p ≡ countIf (upTo true a) (termsIn l (c .terms)) → stretch (c .terms) f p ≡ blockOf l a
+unfolding blockOf
+block-found l a c k f p ef ep = rw (k .none, ef, ep, k .terms, ap (λ (d : Checked). d .terms) (k .is))
+
+pub block-bounded : (l : List ℕ) (a : ℕ) (c : Checked) → Accepted 1 l c → (f p : ℕ) → f ≡ countIf (upTo false a) (termsIn l (c .terms))
+    → p ≡ countIf (upTo true a) (termsIn l (c .terms)) → (c .terms ≤ 2048) × (f ≤ p) × (p ≤ c .terms)
+block-bounded l a c k f p ef ep = (
+  omega (arith, k .laid .few, ap (λ (d : Checked). d .terms) (k .is)),
+  omega (arith, first-below-past a (termsIn l (c .terms))),
+  omega (arith, past-inside l (c .terms) a true),
+)
+
+-- the stretch lies within the record
+pub block-inside : (l : List ℕ) (a : ℕ) → (blockOf l a) .start + (blockOf l a) .len ≤ length l
+unfolding blockOf
+block-inside l a = go (eqb ((refusalOf 1 l) .number) 0) refl (eqb (firstOf l a) (pastOf l a))
+  where
+    go : (b : Bool) → eqb ((refusalOf 1 l) .number) 0 ≡ b → (d : Bool)
+        → (cond b (cond d emptyStretch (record { start = 32 + 8 * countOf l + 8 * firstOf l a; len = 8 * (pastOf l a - firstOf l a) })) emptyStretch) .start
+        + (cond b (cond d emptyStretch (record { start = 32 + 8 * countOf l + 8 * firstOf l a; len = 8 * (pastOf l a - firstOf l a) })) emptyStretch) .len
+        ≤ length l
+    go true e true = zero-le
+    go true e false =
+        let k = accepted-laid 1 l (eqb-true _ _ e) .size in
+        let p = past-inside l (countOf l) a true in
+        let f = first-below-past a (termsOf l) in
+        omega arith
+    go false e d = zero-le
+
+-- ---- what stands there
+
+-- the terms with the annihilation word a
+unfoldable pub having : ℕ → List Term → List Term
+having a [] = []
+having a (t ∷ ts) = cond (eqb (t .ann) a) (t ∷ having a ts) (having a ts)
+
+none-having : (a : ℕ) (t : Term) (ts : List Term) → a < t .ann → Above t ts → having a ts ≡ []
+unfolding having
+none-having a t [] h none = refl
+none-having a t (u ∷ ts) h (more b s) = rw (ne-eqb (u .ann) a (λ e. omega (arith, ann-below t u b)), none-having a t ts h s)
+
+-- in an ascending list they stand together
+pub having-is : (a : ℕ) (ts : List Term) → Ascending ts
+    → having a ts ≡ take (countIf (upTo true a) ts - countIf (upTo false a) ts) (drop (countIf (upTo false a) ts) ts)
+unfolding having countIf
+having-is a [] empty = refl
+having-is a (t ∷ ts) (above b s) = go (having-is a ts s) (lt-or-ge (t .ann) a) (lt-or-ge a (t .ann))
+  where
+    go : having a ts ≡ take (countIf (upTo true a) ts - countIf (upTo false a) ts) (drop (countIf (upTo false a) ts) ts)
+        → (t .ann < a) ⊎ (a ≤ t .ann) → (a < t .ann) ⊎ (t .ann ≤ a)
+        → cond (eqb (t .ann) a) (t ∷ having a ts) (having a ts)
+        ≡ take ((cond (leb (t .ann) a) 1 0 + countIf (upTo true a) ts) - (cond (ltb (t .ann) a) 1 0 + countIf (upTo false a) ts))
+        (drop (cond (ltb (t .ann) a) 1 0 + countIf (upTo false a) ts) (t ∷ ts))
+    go ih (inl h) k =
+        let d : 1 + countIf (upTo false a) ts ≡ suc (countIf (upTo false a) ts) = omega arith in
+        let m : (1 + countIf (upTo true a) ts) - suc (countIf (upTo false a) ts) ≡ countIf (upTo true a) ts - countIf (upTo false a) ts = omega arith in
+        rw (ne-eqb (t .ann) a (λ e. omega arith), le-leb (t .ann) a (omega arith), lt-ltb (t .ann) a h, d, m) ih
+    go ih (inr h) (inl k) =
+        let f : countIf (upTo false a) ts ≡ 0 = none-above (upTo false a) (up-to-downward false a) t ts (le-ltb (t .ann) a h) b in
+        let p : countIf (upTo true a) ts ≡ 0 = none-above (upTo true a) (up-to-downward true a) t ts (lt-leb (t .ann) a k) b in
+        rw (ne-eqb (t .ann) a (λ e. omega arith), lt-leb (t .ann) a k, le-ltb (t .ann) a h, f, p) (none-having a t ts k b)
+    go ih (inr h) (inr k) =
+        let f : countIf (upTo false a) ts ≡ 0 = none-above (upTo false a) (up-to-downward false a) t ts (le-ltb (t .ann) a h) b in
+        let z : countIf (upTo true a) ts - 0 ≡ countIf (upTo true a) ts = omega arith in
+        let m : (1 + countIf (upTo true a) ts) - 0 ≡ suc (countIf (upTo true a) ts) = omega arith in
+        let rest : having a ts ≡ take (countIf (upTo true a) ts) ts = rw (f, z) at ih in
+        rw (eq-eqb (t .ann) a (omega arith), le-leb (t .ann) a k, le-ltb (t .ann) a h, f, m) (ap (λ (us : List Term). t ∷ us) rest)
+
+drop-take : {A : Type 0} (i k : ℕ) (l : List A) → drop i (take k l) ≡ take (k - i) (drop i l)
+drop-take zero k l = let e : k - 0 ≡ k = omega arith in rw e
+drop-take (suc i) zero l = let e : zero - suc i ≡ 0 = omega arith in rw e
+drop-take (suc i) (suc k) [] = sym (take-nil (suc k - suc i))
+drop-take (suc i) (suc k) (x ∷ l) = let e : suc k - suc i ≡ k - i = omega arith in rw e (drop-take i k l)
+
+column-none : (f : Term → ℕ) → column f [] ≡ []
+unfolding column stored
+column-none f = refl
+
+-- a part of a column is the column of a part
+column-take : (f : Term → ℕ) (k : ℕ) (ts : List Term) → take (8 * k) (column f ts) ≡ column f (take k ts)
+unfolding column stored
+column-take f zero ts = refl
+column-take f (suc k) [] = take-nil (8 * suc k)
+column-take f (suc k) (t ∷ ts) =
+    let m : 8 * suc k ≡ length (bytes 8 (f t)) + 8 * k = rw (length-bytes 8 (f t)) (omega (arith, mul-suc 8 k)) in
+    rw m (take-append-add (bytes 8 (f t)) (stored 8 (map f ts)) (8 * k) ∙ ap (λ (z : List ℕ). bytes 8 (f t) ++ z) (column-take f k ts))
+
+column-drop : (f : Term → ℕ) (k : ℕ) (ts : List Term) → drop (8 * k) (column f ts) ≡ column f (drop k ts)
+unfolding column stored
+column-drop f zero ts = refl
+column-drop f (suc k) [] = drop-nil (8 * suc k)
+column-drop f (suc k) (t ∷ ts) =
+    let m : 8 * suc k ≡ length (bytes 8 (f t)) + 8 * k = rw (length-bytes 8 (f t)) (omega (arith, mul-suc 8 k)) in
+    rw m (drop-append-add (bytes 8 (f t)) (stored 8 (map f ts)) (8 * k) ∙ column-drop f k ts)
+
+-- a stretch of the creation column
+stretch-bytes : (l : List ℕ) (n f p : ℕ) → column (λ t. t .cre) (termsIn l n) ≡ take (8 * n) (drop (32 + 8 * n) l) → f ≤ p → p ≤ n
+    → bytesIn (stretch n f p) l ≡ column (λ t. t .cre) (take (p - f) (drop f (termsIn l n)))
+stretch-bytes l n f p e h k = go (eqb f p) refl
+  where
+    go : (b : Bool) → eqb f p ≡ b
+        → bytesIn (cond b emptyStretch (record { start = 32 + 8 * n + 8 * f; len = 8 * (p - f) })) l ≡ column (λ t. t .cre) (take (p - f) (drop f (termsIn l n)))
+    go true q = let z : p - f ≡ 0 = omega (arith, eqb-true f p q) in rw z (sym (column-none (λ t. t .cre)))
+    go false q =
+        let w : 8 * (p - f) ≤ 8 * n - 8 * f = omega arith in
+        rw (← drop-drop (8 * f) (32 + 8 * n) l)
+        (sym (take-take (8 * (p - f)) (8 * n - 8 * f) (drop (8 * f) (drop (32 + 8 * n) l)) w)
+        ∙ ap (take (8 * (p - f))) (sym (drop-take (8 * f) (8 * n) (drop (32 + 8 * n) l)) ∙ ap (drop (8 * f)) (sym e) ∙ column-drop (λ t. t .cre) f (termsIn l n))
+        ∙ column-take (λ t. t .cre) (p - f) (drop f (termsIn l n)))
+
+-- THE BLOCK. Of an accepted record it is the creations of exactly the terms with that annihilation word, in their order
+pub block-words : (l : List ℕ) (a : ℕ) → Small l → (refusalOf 1 l) .number ≡ 0 → bytesIn (blockOf l a) l ≡ column (λ t. t .cre) (having a (termsOf l))
+unfolding blockOf
+block-words l a small e =
+    let size = accepted-laid 1 l e .size in
+    let whole = creations-read l small (countOf l) (omega arith) in
+    rw (eq-eqb _ _ e, having-is a (termsOf l) (accepted-canonical 1 l e .ascending))
+    (stretch-bytes l (countOf l) (firstOf l a) (pastOf l a) whole (first-below-past a (termsOf l)) (past-inside l (countOf l) a true))

@@ -1,0 +1,82 @@
+-- An ascending list of terms without zeros is known by its coefficients, so one operator has one canonical form.
+use mathlib.Core.Path.{_≡_, refl, sym, ap, ap₂, _∙_}
+use mathlib.Core.Bool.{true, and-false}
+use mathlib.Core.List.{List, [], _∷_, _++_}
+use Prim.Native.Nat.{ℕ}
+use native.Mathlib.Omega.{arith}
+use lib.Dec.{eqb}
+use lib.IntN.{ℤ, pos, negℤ, _+ℤ_, +ℤ-idl, +ℤ-idr, +ℤ-assoc, +ℤ-invl}
+use borrow.Author.Tests.{eq-eqb, ne-eqb}
+use Rattle.modes.specs.declared.Term.{Term}
+use Rattle.lent.specs.Every.{Every, none, more}
+use Rattle.lent.proofs.RowLaws.{term-of}
+use Rattle.record.specs.Terms.{before, Above, Ascending, empty, above}
+use Rattle.record.specs.Layout.{modesOf, termsOf}
+use Rattle.record.specs.Refusals.{refusalOf}
+use Rattle.record.specs.Coefficients.{coeffIn, coeffOf}
+use Rattle.record.specs.Canonical.{Nonzero}
+use Rattle.record.proofs.Order.{Order, lower, level, order, Compared, less, same, greater, compare, above-trans}
+use Rattle.record.proofs.Accepted.{accepted-canonical}
+use Rattle.record.proofs.Inverse.{Small, same-bytes}
+
+pub coeff-cons : (c a : ℕ) (t : Term) (ts : List Term) → coeffOf c a (t ∷ ts) ≡ coeffIn c a t +ℤ coeffOf c a ts
+unfolding coeffOf
+coeff-cons c a t ts = refl
+
+pub coeff-append : (c a : ℕ) (ts us : List Term) → coeffOf c a (ts ++ us) ≡ coeffOf c a ts +ℤ coeffOf c a us
+unfolding coeffOf
+coeff-append c a [] us = sym (+ℤ-idl _)
+coeff-append c a (t ∷ ts) us = ap (λ (x : ℤ). coeffIn c a t +ℤ x) (coeff-append c a ts us) ∙ sym (+ℤ-assoc (coeffIn c a t) (coeffOf c a ts) (coeffOf c a us))
+
+-- a term that stands before another has other words
+other-words : (t u : Term) → before t u ≡ true → coeffIn (t .cre) (t .ann) u ≡ pos 0
+other-words t u e = go (order t u e)
+  where
+    go : Order t u → coeffIn (t .cre) (t .ann) u ≡ pos 0
+    go (lower h) = rw (ne-eqb (u .ann) (t .ann) (λ q. omega arith))
+    go (level q h) = rw (ne-eqb (u .cre) (t .cre) (λ p. omega arith), and-false (eqb (u .ann) (t .ann)))
+
+pub above-none : (t : Term) (ts : List Term) → Above t ts → coeffOf (t .cre) (t .ann) ts ≡ pos 0
+unfolding coeffOf
+above-none t [] none = refl
+above-none t (u ∷ ts) (more h a) = rw (other-words t u h, above-none t ts a)
+
+pub own-coeff : (t : Term) (ts : List Term) → Above t ts → coeffOf (t .cre) (t .ann) (t ∷ ts) ≡ t .coeff
+unfolding coeffOf
+own-coeff t ts h = rw (eq-eqb (t .ann) (t .ann) refl, eq-eqb (t .cre) (t .cre) refl, above-none t ts h) (+ℤ-idr (t .coeff))
+
+pub cancel : (x y z : ℤ) → x +ℤ y ≡ x +ℤ z → y ≡ z
+cancel x y z e =
+    sym (undo y) ∙ ap (λ (w : ℤ). negℤ x +ℤ w) e ∙ undo z
+  where
+    undo : (w : ℤ) → negℤ x +ℤ (x +ℤ w) ≡ w
+    undo w = sym (+ℤ-assoc (negℤ x) x w) ∙ ap (λ (v : ℤ). v +ℤ w) (+ℤ-invl x) ∙ +ℤ-idl w
+
+-- the first term of an ascending list is nowhere in one that starts above it
+clash : (t : Term) (ts us : List Term) → Above t ts → Nonzero t → Above t us → coeffOf (t .cre) (t .ann) (t ∷ ts) ≡ coeffOf (t .cre) (t .ann) us → ⊥
+clash t ts us h n k e = n (sym (own-coeff t ts h) ∙ e ∙ above-none t us k)
+
+pub same-terms : (ts us : List Term) → Ascending ts → Ascending us → Every Nonzero ts → Every Nonzero us
+    → ((c a : ℕ) → coeffOf c a ts ≡ coeffOf c a us) → ts ≡ us
+same-terms [] [] empty empty none none e = refl
+same-terms [] (u ∷ us) empty (above h s) none (more n ns) e = absurd (clash u us [] h n none (sym (e (u .cre) (u .ann))))
+same-terms (t ∷ ts) [] (above h s) empty (more n ns) none e = absurd (clash t ts [] h n none (e (t .cre) (t .ann)))
+same-terms (t ∷ ts) (u ∷ us) (above h s) (above k r) (more n ns) (more m ms) e = go (same-terms ts us s r ns ms) (compare t u)
+  where
+    go : (((c a : ℕ) → coeffOf c a ts ≡ coeffOf c a us) → ts ≡ us) → Compared t u → _≡_ {A = List Term} (t ∷ ts) (u ∷ us)
+    go rest (less b) = absurd (clash t ts (u ∷ us) h n (more b (above-trans t u us b k)) (e (t .cre) (t .ann)))
+    go rest (greater b) = absurd (clash u us (t ∷ ts) k m (more b (above-trans u t ts b h)) (sym (e (u .cre) (u .ann))))
+    go rest (same p q) =
+        let w : t .coeff ≡ u .coeff = sym (own-coeff t ts h) ∙ e (t .cre) (t .ann) ∙ ap₂ (λ (c a : ℕ). coeffOf c a (u ∷ us)) q p ∙ own-coeff u us k in
+        let z : t ≡ u = term-of p q w in
+        ap₂ {C = List Term} (λ (x : Term) (y : List Term). x ∷ y) z
+        (rest (λ c a. cancel (coeffIn c a t) (coeffOf c a ts) (coeffOf c a us)
+        (sym (coeff-cons c a t ts) ∙ e c a ∙ coeff-cons c a u us ∙ ap (λ (x : Term). coeffIn c a x +ℤ coeffOf c a us) (sym z))))
+
+-- two accepted records on one number of modes with the same coefficients are the same bytes
+pub same-record : (o p : ℕ) (k l : List ℕ) → Small k → Small l → (refusalOf o k) .number ≡ 0 → (refusalOf p l) .number ≡ 0
+    → modesOf k ≡ modesOf l → ((c a : ℕ) → coeffOf c a (termsOf k) ≡ coeffOf c a (termsOf l)) → k ≡ l
+same-record o p k l sk sl ek el m e =
+    let x = accepted-canonical o k ek in
+    let y = accepted-canonical p l el in
+    same-bytes o p k l sk sl ek el m (same-terms (termsOf k) (termsOf l) (x .ascending) (y .ascending) (x .nonzero) (y .nonzero) e)

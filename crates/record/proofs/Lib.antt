@@ -1,0 +1,14 @@
+pub mod Numbers
+pub mod Refusals
+pub mod Weights
+pub mod Reading
+pub mod Header
+pub mod Checking
+pub mod Order
+pub mod Accepted
+pub mod Inverse
+pub mod Coefficients
+pub mod Columns
+pub mod Blocks
+pub mod Surveys
+pub mod Unique

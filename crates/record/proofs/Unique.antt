@@ -1,0 +1,64 @@
+-- No two answers meet a promise of this crate.
+use mathlib.Core.Path.{_≡_, sym, _∙_}
+use mathlib.Core.Bool.{Bool}
+use mathlib.Core.List.{List, _∷_}
+use Prim.Native.Nat.{ℕ, _+_, _^_, _≤_}
+use lib.IntN.{natAbs}
+use lib.ListN.{drop}
+use Rattle.modes.specs.declared.Term.{Term}
+use Rattle.lent.specs.Bytes.{put}
+use Rattle.record.specs.Terms.{before}
+use Rattle.record.specs.Layout.{header, termsIn, putTerm}
+use Rattle.record.specs.Refusals.{checkedOf}
+use Rattle.record.specs.Reading.{At}
+use Rattle.record.specs.Weights.{heavierBy}
+use Rattle.record.specs.Blocks.{blockOf, bytesIn}
+use Rattle.record.specs.Figures.{rankOf, conservesOf, maxNBodyOf, activeModesOf}
+use Rattle.record.specs.declared.Checked.{Checked}
+use Rattle.record.specs.declared.Stretch.{Stretch}
+use Rattle.record.specs.declared.Tested.{Tested}
+use Rattle.record.specs.declared.Measured.{Measured}
+
+-- what equals one value is one
+one : {A : Type 0} {x r s : A} → r ≡ x → s ≡ x → r ≡ s
+one p q = p ∙ sym q
+
+pub one-check : (o : ℕ) (l : List ℕ) (r s : Checked) → r ≡ checkedOf o l → s ≡ checkedOf o l → r ≡ s
+one-check o l r s = one
+
+-- a list has one i-th term
+pub one-term : (l : List ℕ) (n i : ℕ) (r s : Term) → At (termsIn l n) i r → At (termsIn l n) i s → r ≡ s
+one-term l n i r s p q = let e : _≡_ {A = List Term} (r ∷ drop (i + 1) (termsIn l n)) (s ∷ drop (i + 1) (termsIn l n)) = sym p ∙ q in cc
+
+pub one-order : (t u : Term) (r s : Bool) → r ≡ before t u → s ≡ before t u → r ≡ s
+one-order t u r s = one
+
+pub one-size : (t : Term) (r s : ℕ) → (r ≡ natAbs (t .coeff)) × (r ≤ 2 ^ 63) → (s ≡ natAbs (t .coeff)) × (s ≤ 2 ^ 63) → r ≡ s
+one-size t r s p q = one (p .0) (q .0)
+
+pub one-weight : (k w r s : ℕ) → r ≡ heavierBy k w → s ≡ heavierBy k w → r ≡ s
+one-weight k w r s = one
+
+pub one-header : (out : List ℕ) (m n : ℕ) (x y : List ℕ) → x ≡ put out 0 (header m n) → y ≡ put out 0 (header m n) → x ≡ y
+one-header out m n x y = one
+
+pub one-put : (out : List ℕ) (n k : ℕ) (t : Term) (x y : List ℕ) → x ≡ putTerm out n k t → y ≡ putTerm out n k t → x ≡ y
+one-put out n k t x y = one
+
+pub one-stretch : (l : List ℕ) (a : ℕ) (r s : Stretch) → r ≡ blockOf l a → s ≡ blockOf l a → r ≡ s
+one-stretch l a r s = one
+
+pub one-block : (l : List ℕ) (a : ℕ) (r s : List ℕ) → r ≡ bytesIn (blockOf l a) l → s ≡ bytesIn (blockOf l a) l → r ≡ s
+one-block l a r s = one
+
+pub one-rank : (t : Term) (r s : ℕ) → r ≡ rankOf t → s ≡ rankOf t → r ≡ s
+one-rank t r s = one
+
+pub one-conserving : (l : List ℕ) (r s : Tested) → r ≡ conservesOf l → s ≡ conservesOf l → r ≡ s
+one-conserving l r s = one
+
+pub one-largest-rank : (l : List ℕ) (r s : Measured) → r ≡ maxNBodyOf l → s ≡ maxNBodyOf l → r ≡ s
+one-largest-rank l r s = one
+
+pub one-union : (l : List ℕ) (r s : Measured) → r ≡ activeModesOf l → s ≡ activeModesOf l → r ≡ s
+one-union l r s = one

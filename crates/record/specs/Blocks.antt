@@ -1,0 +1,42 @@
+-- The stretch of the creation column for one annihilation word.
+use Prim.Native.Nat.{ℕ, _+_, _*_, _-_}
+use mathlib.Core.Bool.{Bool, true, false, cond}
+use mathlib.Core.List.{List, [], _∷_}
+use lib.Dec.{eqb, ltb, leb}
+use lib.ListN.{take, drop}
+use Rattle.modes.specs.declared.Term.{Term}
+use Rattle.record.specs.Layout.{countOf, termsOf}
+use Rattle.record.specs.Refusals.{refusalOf}
+use Rattle.record.specs.declared.Stretch.{Stretch}
+
+-- how many of the terms p holds of
+unfoldable pub countIf : (Term → Bool) → List Term → ℕ
+countIf p [] = 0
+countIf p (t ∷ ts) = cond (p t) 1 0 + countIf p ts
+
+-- the terms that stand before those with the annihilation word a; and these with those
+abbrev pub upTo : Bool → ℕ → Term → Bool
+upTo false a t = ltb (t .ann) a
+upTo true a t = leb (t .ann) a
+
+-- the terms with the annihilation word a are those from the first-th on, up to the past-th
+abbrev pub firstOf : List ℕ → ℕ → ℕ
+firstOf l a = countIf (upTo false a) (termsOf l)
+
+abbrev pub pastOf : List ℕ → ℕ → ℕ
+pastOf l a = countIf (upTo true a) (termsOf l)
+
+abbrev pub emptyStretch : Stretch
+emptyStretch = record { start = 0; len = 0 }
+
+-- the bytes of n terms' creation column from the first-th entry to the past-th
+abbrev pub stretch : ℕ → ℕ → ℕ → Stretch
+stretch n first past = cond (eqb first past) emptyStretch (record { start = 32 + 8 * n + 8 * first; len = 8 * (past - first) })
+
+-- of a record that is not accepted, the empty part
+unfoldable pub blockOf : List ℕ → ℕ → Stretch
+blockOf l a = cond (eqb ((refusalOf 1 l) .number) 0) (stretch (countOf l) (firstOf l a) (pastOf l a)) emptyStretch
+
+-- the bytes of a stretch
+abbrev pub bytesIn : Stretch → List ℕ → List ℕ
+bytesIn s l = take (s .len) (drop (s .start) l)

@@ -1,0 +1,10 @@
+pub mod Numbers
+pub mod Terms
+pub mod Layout
+pub mod Refusals
+pub mod Coefficients
+pub mod Canonical
+pub mod Reading
+pub mod Weights
+pub mod Blocks
+pub mod Figures

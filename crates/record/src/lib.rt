@@ -1,0 +1,455 @@
+// The record: its check, the reading and writing of its terms, the stretch of one annihilation word, and what its terms
+// have in common.
+use modes::MadeSpace;
+use modes::ModeSpace;
+use modes::Refusal;
+use modes::Term;
+ghost use mathlib.Core.Path.{_≡_};
+ghost use mathlib.Core.Bool.{true, false, _||_};
+ghost use Prim.Native.Nat.{_+_, _*_, _-_, _≤_, _<_, _^_, max};
+ghost use lib.IntN.{natAbs};
+ghost use lib.ListN.{length, take, drop};
+ghost use Rattle.lent.specs.Bytes.{put};
+ghost use Rattle.modes.specs.Words.{bit};
+ghost use Rattle.modes.specs.Counts.{count};
+ghost use Rattle.modes.specs.Answers.{refusal, none};
+ghost use Rattle.record.specs.Numbers.{numbers, sameNumbers};
+ghost use Rattle.record.specs.Terms.{before, Ascending};
+ghost use Rattle.record.specs.Layout.{fields, header, modesOf, countOf, termsIn, termsOf, laidOut, putTerm};
+ghost use Rattle.record.specs.Refusals.{termRefusal, refusalOf, refusedRecord, checkedOf};
+ghost use Rattle.record.specs.Reading.{At};
+ghost use Rattle.record.specs.Weights.{heavierBy};
+ghost use Rattle.record.specs.Blocks.{upTo, countIf, blockOf, bytesIn};
+ghost use Rattle.record.specs.Figures.{rankOf, conserves, figuresOf, conservesOf, maxNBodyOf, activeModesOf};
+
+// The most terms and the largest weight that a record may have.
+pub const MOST_TERMS: usize = 2048;
+
+pub const HEAVIEST: u64 = 1_152_921_504_606_846_976;
+
+// What the check found: the refusal, or none with the record's modes, terms and weight, which are 0 after a refusal.
+pub struct Checked {
+    pub refusal: Refusal,
+    pub modes: u64,
+    pub terms: usize,
+    pub weight: u64,
+}
+
+impl Checked {
+    fn refused(refusal: Refusal) -> Checked
+        ensures { λ r. ⌜ r ≡ refusedRecord refusal ⌝ }
+    {
+        Checked {
+            refusal,
+            modes: 0,
+            terms: 0,
+            weight: 0,
+        }
+    }
+}
+
+// Where a stretch of bytes begins, and how many there are.
+pub struct Stretch {
+    pub start: usize,
+    pub len: usize,
+}
+
+// The answer to a question about a record; false where it is refused.
+pub struct Tested {
+    pub refusal: Refusal,
+    pub holds: bool,
+}
+
+// A number found in a record; 0 where it is refused.
+pub struct Measured {
+    pub refusal: Refusal,
+    pub value: u64,
+}
+
+// Is the header that of m modes and n terms?
+fn header_is(s: &[u8], m: usize, n: usize) -> bool
+    requires { ⌜ (32 ≤ length (now s)) × (n ≤ 2048) ⌝ }
+    ensures { λ r. ⌜ r ≡ sameNumbers (numbers 4 (now (s .entry)) 0 8) (fields m n) ⌝ }
+{
+    if lent::half(s, 0) != 1 {
+        return false;
+    }
+    if lent::half(s, 4) != m {
+        return false;
+    }
+    if lent::half(s, 8) != n {
+        return false;
+    }
+    if lent::half(s, 12) != 32 {
+        return false;
+    }
+    if lent::half(s, 16) != 32 + 8 * n {
+        return false;
+    }
+    if lent::half(s, 20) != 32 + 16 * n {
+        return false;
+    }
+    if lent::half(s, 24) != 32 + 24 * n {
+        return false;
+    }
+    lent::half(s, 28) == 0
+}
+
+// Number 1: header, length, mode count and number of terms.
+fn laid_out(s: &[u8]) -> bool
+    ensures { λ r. ⌜ r ≡ laidOut (now (s .entry)) ⌝ }
+{
+    if s.len() < 32 {
+        return false;
+    }
+    let m = lent::half(s, 4);
+    let n = lent::half(s, 8);
+    if s.len() != 32 + 24 * n {
+        return false;
+    }
+    let MadeSpace::Made(_) = ModeSpace::from_count(m as u64) else {
+        return false;
+    };
+    if MOST_TERMS < n {
+        return false;
+    }
+    header_is(s, m, n)
+}
+
+// The i-th of n terms. Whatever reads a record reads it by this.
+pub fn read_term(s: &[u8], n: usize, i: usize) -> Term
+    requires { ⌜ (32 + 24 * n ≤ length (now s)) × (i < n) ⌝ }
+    ensures { λ r. ⌜ At (termsIn (now (s .entry)) n) i r ⌝ }
+{
+    let ann = lent::word(s, 32 + 8 * i);
+    let cre = lent::word(s, 32 + 8 * n + 8 * i);
+    let coeff = lent::signed(lent::word(s, 32 + 16 * n + 8 * i));
+    Term { cre, ann, coeff }
+}
+
+// Does t stand before u?
+pub fn is_before(t: Term, u: Term) -> bool
+    ensures { λ r. ⌜ r ≡ before t u ⌝ }
+{
+    if t.ann < u.ann {
+        return true;
+    }
+    if t.ann != u.ann {
+        return false;
+    }
+    t.cre < u.cre
+}
+
+// May t stand after `last`? Anything may stand first.
+fn follows(first: bool, last: Term, t: Term) -> bool
+    ensures { λ r. ⌜ r ≡ (first || before last t) ⌝ }
+{
+    if first {
+        return true;
+    }
+    is_before(last, t)
+}
+
+// How far the term's coefficient is from zero.
+pub fn size(t: Term) -> u64
+    ensures { λ r. ⌜ (r ≡ natAbs (t .coeff)) × (r ≤ 2 ^ 63) ⌝ }
+{
+    lent::magnitude(t.coeff)
+}
+
+// Numbers 2, 3 and 4 of the term t at `place`; `up` says that it is the first or above the one before it.
+fn term_refusal(space: ModeSpace, operand: u64, place: u64, up: bool, t: Term) -> Refusal
+    ensures { λ r. ⌜ r ≡ termRefusal operand (space .count) place up t ⌝ }
+{
+    if !space.contains(t.ann) {
+        return Refusal {
+            number: 2,
+            operand,
+            place,
+        };
+    }
+    if !space.contains(t.cre) {
+        return Refusal {
+            number: 2,
+            operand,
+            place,
+        };
+    }
+    if !up {
+        return Refusal {
+            number: 3,
+            operand,
+            place,
+        };
+    }
+    if size(t) == 0 {
+        return Refusal {
+            number: 4,
+            operand,
+            place,
+        };
+    }
+    Refusal::NONE
+}
+
+// The weight w with k more. Once it is above the ceiling it is no longer summed, so that it never wraps.
+pub fn heavier(w: u64, k: u64) -> u64
+    requires { ⌜ k ≤ 2 ^ 63 ⌝ }
+    ensures { λ r. ⌜ r ≡ heavierBy k w ⌝ }
+{
+    if w <= HEAVIEST { w + k } else { w }
+}
+
+// The check of n terms on m modes, once the header is right.
+fn check_terms(s: &[u8], operand: u64, m: u64, n: usize) -> Checked
+    requires { ⌜ (laidOut (now s) ≡ true) × (m ≡ modesOf (now s)) × (n ≡ countOf (now s)) ⌝ }
+    ensures { λ r. ⌜ r ≡ checkedOf operand (now (s .entry)) ⌝ }
+{
+    let space = ModeSpace { count: m };
+    let mut first = true;
+    let mut last = Term {
+        cre: 0,
+        ann: 0,
+        coeff: 0,
+    };
+    let mut w = 0;
+    let mut i = 0;
+    while i < n {
+        let t = read_term(s, n, i);
+        let up = follows(first, last, t);
+        let r = term_refusal(space, operand, i as u64, up, t);
+        if r.number != 0 {
+            return Checked::refused(r);
+        }
+        w = heavier(w, size(t));
+        first = false;
+        last = t;
+        i += 1;
+    }
+    if HEAVIEST < w {
+        return Checked::refused(Refusal {
+            number: 5,
+            operand,
+            place: 0,
+        });
+    }
+    Checked {
+        refusal: Refusal::NONE,
+        modes: m,
+        terms: n,
+        weight: w,
+    }
+}
+
+// Are the bytes a record? The answer for any bytes, with the operand that the caller names.
+pub fn check(s: &[u8], operand: u64) -> Checked
+    ensures { λ r. ⌜ r ≡ checkedOf operand (now (s .entry)) ⌝ }
+{
+    if !laid_out(s) {
+        return Checked::refused(Refusal {
+            number: 1,
+            operand,
+            place: 0,
+        });
+    }
+    let m = lent::half(s, 4) as u64;
+    let n = lent::half(s, 8);
+    check_terms(s, operand, m, n)
+}
+
+// The header of m modes and n terms to the front.
+pub fn put_header(out: &mut [u8], m: u64, n: usize)
+    requires { ⌜ (32 ≤ length (now out)) × (n ≤ 2048) ⌝ }
+    ensures { λ _. ⌜ now (out .exit) ≡ put (now (out .entry)) 0 (header m n) ⌝ }
+{
+    lent::put_half(out, 0, 1);
+    lent::put_half(out, 4, m as usize);
+    lent::put_half(out, 8, n);
+    lent::put_half(out, 12, 32);
+    lent::put_half(out, 16, 32 + 8 * n);
+    lent::put_half(out, 20, 32 + 16 * n);
+    lent::put_half(out, 24, 32 + 24 * n);
+    lent::put_half(out, 28, 0);
+}
+
+// The k-th of n terms to its three columns.
+pub fn put_term(out: &mut [u8], n: usize, k: usize, t: Term)
+    requires { ⌜ (32 + 24 * n ≤ length (now out)) × (k < n) ⌝ }
+    ensures { λ _. ⌜ now (out .exit) ≡ putTerm (now (out .entry)) n k t ⌝ }
+{
+    lent::put_word(out, 32 + 8 * k, t.ann);
+    lent::put_word(out, 32 + 8 * n + 8 * k, t.cre);
+    lent::put_word(out, 32 + 16 * n + 8 * k, lent::bits(t.coeff));
+}
+
+// Does t stand before the terms with the annihilation word `ann`, or, with `past`, not after them?
+fn is_up_to(past: bool, ann: u64, t: Term) -> bool
+    ensures { λ r. ⌜ r ≡ upTo past ann t ⌝ }
+{
+    if past {
+        return t.ann <= ann;
+    }
+    t.ann < ann
+}
+
+// How many of the n terms these are, found by halving.
+fn count_up_to(s: &[u8], n: usize, past: bool, ann: u64) -> usize
+    requires { ⌜ (32 + 24 * n ≤ length (now s)) × Ascending (termsIn (now s) n) ⌝ }
+    ensures { λ r. ⌜ r ≡ countIf (upTo past ann) (termsIn (now (s .entry)) n) ⌝ }
+{
+    let mut low = 0;
+    let mut high = n;
+    while low < high {
+        let middle = low + (high - low) / 2;
+        let t = read_term(s, n, middle);
+        if is_up_to(past, ann, t) {
+            low = middle + 1;
+        } else {
+            high = middle;
+        }
+    }
+    low
+}
+
+// Where the creations of the terms with the annihilation word `ann` stand in the record's bytes.
+pub fn block_bounds(s: &[u8], ann: u64) -> Stretch
+    ensures { λ r. ⌜ r ≡ blockOf (now (s .entry)) ann ⌝ }
+{
+    let c = check(s, 1);
+    if c.refusal.number != 0 {
+        return Stretch { start: 0, len: 0 };
+    }
+    let n = c.terms;
+    let first = count_up_to(s, n, false, ann);
+    let past = count_up_to(s, n, true, ann);
+    if first == past {
+        return Stretch { start: 0, len: 0 };
+    }
+    Stretch {
+        start: 32 + 8 * n + 8 * first,
+        len: 8 * (past - first),
+    }
+}
+
+// The creations of the terms with the annihilation word `ann`, as a part of the caller's own record: the empty part if
+// there are none, or the record is not accepted.
+pub fn block(s: &[u8], ann: u64) -> &[u8]
+    ensures { λ r. ⌜ now r ≡ bytesIn (blockOf (now (s .entry)) ann) (now (s .entry)) ⌝ }
+{
+    let b = block_bounds(s, ann);
+    let start = b.start;
+    let end = start + b.len;
+    &s[start..end]
+}
+
+// How many modes the word holds.
+fn modes_in(word: u64) -> u64
+    ensures { λ r. ⌜ (r ≡ count 64 (bit word)) × (r ≤ 64) ⌝ }
+{
+    u64::count_ones(word) as u64
+}
+
+// The rank of a term: creations plus annihilations, halved, rounded down.
+pub fn rank(t: Term) -> u64
+    ensures { λ r. ⌜ r ≡ rankOf t ⌝ }
+{
+    (modes_in(t.cre) + modes_in(t.ann)) / 2
+}
+
+fn is_conserving(t: Term) -> bool
+    ensures { λ r. ⌜ r ≡ conserves t ⌝ }
+{
+    modes_in(t.cre) == modes_in(t.ann)
+}
+
+fn larger(x: u64, y: u64) -> u64
+    ensures { λ r. ⌜ r ≡ max x y ⌝ }
+{
+    if x < y { y } else { x }
+}
+
+// What the terms of a record have in common: conservation, the largest rank, and all modes.
+struct Figures {
+    refusal: Refusal,
+    conserving: bool,
+    rank: u64,
+    modes: u64,
+}
+
+// The figures of n terms, in one walk.
+fn survey_terms(s: &[u8], n: usize) -> Figures
+    requires { ⌜ 32 + 24 * n ≤ length (now s) ⌝ }
+    ensures { λ r. ⌜ r ≡ figuresOf none (termsIn (now (s .entry)) n) ⌝ }
+{
+    let mut conserving = true;
+    let mut largest = 0;
+    let mut modes = 0;
+    let mut i = 0;
+    while i < n {
+        let t = read_term(s, n, i);
+        conserving = conserving & is_conserving(t);
+        largest = larger(largest, rank(t));
+        modes = modes | (t.cre | t.ann);
+        i += 1;
+    }
+    Figures {
+        refusal: Refusal::NONE,
+        conserving,
+        rank: largest,
+        modes,
+    }
+}
+
+// The figures of a record, or its refusal.
+fn survey(s: &[u8]) -> Figures
+    ensures { λ r. ⌜ r ≡ figuresOf (refusalOf 1 (now (s .entry))) (termsOf (now (s .entry))) ⌝ }
+{
+    let c = check(s, 1);
+    if c.refusal.number != 0 {
+        let refusal = c.refusal;
+        return Figures {
+            refusal,
+            conserving: false,
+            rank: 0,
+            modes: 0,
+        };
+    }
+    let n = c.terms;
+    survey_terms(s, n)
+}
+
+// Has every term as many creations as annihilations?
+pub fn conserves_particle_number(s: &[u8]) -> Tested
+    ensures { λ r. ⌜ r ≡ conservesOf (now (s .entry)) ⌝ }
+{
+    let f = survey(s);
+    let refusal = f.refusal;
+    Tested {
+        refusal,
+        holds: f.conserving,
+    }
+}
+
+// The largest rank of the terms, 0 for no terms.
+pub fn max_n_body(s: &[u8]) -> Measured
+    ensures { λ r. ⌜ r ≡ maxNBodyOf (now (s .entry)) ⌝ }
+{
+    let f = survey(s);
+    let refusal = f.refusal;
+    Measured {
+        refusal,
+        value: f.rank,
+    }
+}
+
+// The union of all words.
+pub fn active_modes(s: &[u8]) -> Measured
+    ensures { λ r. ⌜ r ≡ activeModesOf (now (s .entry)) ⌝ }
+{
+    let f = survey(s);
+    let refusal = f.refusal;
+    Measured {
+        refusal,
+        value: f.modes,
+    }
+}
