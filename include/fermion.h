@@ -30,6 +30,21 @@ void fermion_apply(uint64_t cre, uint64_t ann, uint64_t ket, uint64_t answer[8])
 void fermion_mul_cmpnts(uint64_t l_cre, uint64_t l_ann, uint64_t r_cre, uint64_t r_ann,
                         uint8_t *out, size_t out_len, uint64_t answer[8]);
 
+/* The record's own check, 1 to 5. [5] modes m, [6] terms n, [7] weight. */
+void fermion_check(const uint8_t *a, size_t a_len, uint64_t answer[8]);
+
+/* [5] 1 or 0 */
+void fermion_conserves_particle_number(const uint8_t *a, size_t a_len, uint64_t answer[8]);
+/* [5] the largest rank */
+void fermion_max_n_body(const uint8_t *a, size_t a_len, uint64_t answer[8]);
+/* [5] the union of all words */
+void fermion_active_modes(const uint8_t *a, size_t a_len, uint64_t answer[8]);
+
+/* The stretch of the creation column for one annihilation word: [5] its offset in the record's bytes, [6] its length in
+ * bytes; both 0 for the empty part: no such word, a word outside m modes, or a record that isn't accepted. answer[0] to
+ * answer[4] are 0. */
+void fermion_block(const uint8_t *a, size_t a_len, uint64_t ann, uint64_t answer[8]);
+
 #ifdef __cplusplus
 }
 #endif

@@ -3,19 +3,44 @@ use mathlib.Core.Path.{_≡_}
 use mathlib.Core.Bool.{cond}
 use mathlib.Core.List.{List, [], _∷_}
 use Prim.Native.Nat.{ℕ}
+use Rattle.modes.specs.Answers.{none}
+use Rattle.modes.specs.declared.Refusal.{Refusal}
 use Rattle.modes.specs.declared.Written.{Written}
 use Rattle.lent.specs.Outputs.{Output}
 use Rattle.products.specs.declared.ApplyResult.{ApplyResult}
 use Rattle.products.specs.declared.ApplyResult.the-variants.{Applied, Zero}
+use Rattle.record.specs.declared.Checked.{Checked}
+use Rattle.record.specs.declared.Tested.{Tested}
+use Rattle.record.specs.declared.Measured.{Measured}
+use Rattle.record.specs.declared.Stretch.{Stretch}
 
--- a call that is not refused and writes no bytes: its own three values
+-- a call that fills no output: its refusal, and its own three values
+abbrev pub answered : Refusal → ℕ → ℕ → ℕ → List ℕ
+answered r x y z = r .number ∷ r .operand ∷ r .place ∷ 0 ∷ 0 ∷ x ∷ y ∷ z ∷ []
+
 abbrev pub values : ℕ → ℕ → ℕ → List ℕ
-values x y z = 0 ∷ 0 ∷ 0 ∷ 0 ∷ 0 ∷ x ∷ y ∷ z ∷ []
+values = answered none
 
 -- applied: 1, the new word, and 1 where the sign is minus; Zero: nothing but zeros
 abbrev pub applyAnswer : ApplyResult → List ℕ
 applyAnswer (Applied w s) = values 1 w (cond (s .0) 1 0)
 applyAnswer Zero = values 0 0 0
+
+-- the check: modes, terms and weight
+abbrev pub checkedAnswer : Checked → List ℕ
+checkedAnswer c = answered (c .refusal) (c .modes) (c .terms) (c .weight)
+
+-- a test: 1 where it holds
+abbrev pub testedAnswer : Tested → List ℕ
+testedAnswer t = answered (t .refusal) (cond (t .holds) 1 0) 0 0
+
+-- a number found
+abbrev pub measuredAnswer : Measured → List ℕ
+measuredAnswer m = answered (m .refusal) (m .value) 0 0
+
+-- a stretch of the record's bytes: its offset and its length. This call gives no refusal.
+abbrev pub stretchAnswer : Stretch → List ℕ
+stretchAnswer s = values (s .start) (s .len) 0
 
 -- a call that fills an output: the refusal, the length and the branches
 abbrev pub writtenAnswer : Written → List ℕ

@@ -4,16 +4,40 @@ ghost use mathlib.Core.Bool.{cond};
 ghost use lib.ListN.{length};
 ghost use Rattle.products.specs.Apply.{applied};
 ghost use Rattle.products.specs.Product.{multiplied};
-ghost use Rattle.fermion.specs.Face.{applyAnswer, writtenAnswer, Fills};
-use modes::Sign;
+ghost use Rattle.record.specs.Refusals.{checkedOf};
+ghost use Rattle.record.specs.Blocks.{blockOf};
+ghost use Rattle.record.specs.Figures.{conservesOf, maxNBodyOf, activeModesOf};
+ghost use Rattle.fermion.specs.Face.{values, applyAnswer, writtenAnswer, answered, checkedAnswer, testedAnswer, measuredAnswer, stretchAnswer, Fills};
+use modes::Refusal;
 use modes::Written;
 use products::ApplyResult;
+use record::Measured;
+use record::Tested;
 
-// 1 for minus
-fn minus(sign: Sign) -> u64
-    ensures { λ r. ⌜ r ≡ cond (sign .0) 1 0 ⌝ }
+// 1 for true
+fn flag(b: bool) -> u64
+    ensures { λ r. ⌜ r ≡ cond b 1 0 ⌝ }
 {
-    if sign.0 { 1 } else { 0 }
+    if b { 1 } else { 0 }
+}
+
+// the answer of a call that fills no output
+fn answer_of(r: Refusal, x: u64, y: u64, z: u64) -> [u64; 8]
+    ensures { λ a. ⌜ a ≡ answered r x y z ⌝ }
+{
+    [r.number, r.operand, r.place, 0, 0, x, y, z]
+}
+
+fn tested(t: Tested) -> [u64; 8]
+    ensures { λ a. ⌜ a ≡ testedAnswer t ⌝ }
+{
+    answer_of(t.refusal, flag(t.holds), 0, 0)
+}
+
+fn measured(m: Measured) -> [u64; 8]
+    ensures { λ a. ⌜ a ≡ measuredAnswer m ⌝ }
+{
+    answer_of(m.refusal, m.value, 0, 0)
 }
 
 // the answer of a call that fills an output
@@ -39,8 +63,8 @@ pub extern "C" fn fermion_apply(cre: u64, ann: u64, ket: u64, answer: &mut [u64;
 {
     match products::apply_op_ket_u64(cre, ann, ket) {
         ApplyResult::Applied(word, sign) => {
-            let flag = minus(sign);
-            *answer = [0, 0, 0, 0, 0, 1, word, flag];
+            let minus = flag(sign.0);
+            *answer = [0, 0, 0, 0, 0, 1, word, minus];
         }
         ApplyResult::Zero => {
             *answer = [0, 0, 0, 0, 0, 0, 0, 0];
@@ -61,4 +85,41 @@ pub extern "C" fn fermion_mul_cmpnts(
 {
     let w = products::mul_cmpnts(l_cre, l_ann, r_cre, r_ann, out);
     *answer = written(w);
+}
+
+#[no_mangle]
+pub extern "C" fn fermion_check(a: &[u8], answer: &mut [u64; 8])
+    ensures { λ _. ⌜ now (answer .exit) ≡ checkedAnswer (checkedOf 1 (now (a .entry))) ⌝ }
+{
+    let c = record::check(a, 1);
+    *answer = answer_of(c.refusal, c.modes, c.terms as u64, c.weight);
+}
+
+#[no_mangle]
+pub extern "C" fn fermion_conserves_particle_number(a: &[u8], answer: &mut [u64; 8])
+    ensures { λ _. ⌜ now (answer .exit) ≡ testedAnswer (conservesOf (now (a .entry))) ⌝ }
+{
+    *answer = tested(record::conserves_particle_number(a));
+}
+
+#[no_mangle]
+pub extern "C" fn fermion_max_n_body(a: &[u8], answer: &mut [u64; 8])
+    ensures { λ _. ⌜ now (answer .exit) ≡ measuredAnswer (maxNBodyOf (now (a .entry))) ⌝ }
+{
+    *answer = measured(record::max_n_body(a));
+}
+
+#[no_mangle]
+pub extern "C" fn fermion_active_modes(a: &[u8], answer: &mut [u64; 8])
+    ensures { λ _. ⌜ now (answer .exit) ≡ measuredAnswer (activeModesOf (now (a .entry))) ⌝ }
+{
+    *answer = measured(record::active_modes(a));
+}
+
+#[no_mangle]
+pub extern "C" fn fermion_block(a: &[u8], ann: u64, answer: &mut [u64; 8])
+    ensures { λ _. ⌜ now (answer .exit) ≡ stretchAnswer (blockOf (now (a .entry)) ann) ⌝ }
+{
+    let b = record::block_bounds(a, ann);
+    *answer = [0, 0, 0, 0, 0, b.start as u64, b.len as u64, 0];
 }

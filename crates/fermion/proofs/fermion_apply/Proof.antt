@@ -11,8 +11,8 @@ apply-op-ket-u64-requires c κs = search needs
 enum-known-word : tie.Need-enum-known-word
 enum-known-word c = search needs
 
-minus-requires : tie.Need-minus-requires
-minus-requires c κs = search needs
+flag-requires : tie.Need-flag-requires
+flag-requires c κs = search needs
 
 enum-told : tie.Need-enum-told
 enum-told c = search needs
@@ -20,7 +20,7 @@ enum-told c = search needs
 returns : tie.Need-returns
 returns c =
     let known = c .before .before .before .word .given in
-    ap (values 1 (known .0 .0)) (c .before .minus .ensures)
+    ap (values 1 (known .0 .0)) (c .before .flag .ensures)
     ∙ ap applyAnswer (sym (known .1) ∙ c .before .before .before .before .before .apply-op-ket-u64 .ensures)
 
 returns-2 : tie.Need-returns-2
@@ -29,4 +29,4 @@ returns-2 c = let told = c .before .enum-told .given in ap applyAnswer (sym (tol
 pub fermion-apply-spec : {M : Type 1} → statement M
 fermion-apply-spec =
     tie.close
-    (tie.spec apply-op-ket-u64-requires enum-known-word minus-requires enum-told returns returns-2)
+    (tie.spec apply-op-ket-u64-requires enum-known-word flag-requires enum-told returns returns-2)
