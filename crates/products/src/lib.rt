@@ -141,6 +141,18 @@ pub fn do_branch(out: &mut [u8], at: usize, left: u64, row: Term) -> usize
     do_branch(out, next, less, high)
 }
 
+// The walk from the front of the output. Most products have one row, which needs no call.
+fn walk_from(out: &mut [u8], left: u64, row: Term) -> usize
+    requires { ⌜ (0 + 24 * 2 ^ count 64 (bit left) ≤ length (now out)) × (natAbs (row .coeff) < 2 ^ 63) ⌝ }
+    ensures { λ r. ⌜ (r ≡ 0 + 24 * 2 ^ count 64 (bit left)) × (now (out .exit) ≡ put (now (out .entry)) 0 (rowsBytes (walk (count 64 (bit left)) left row))) ⌝ }
+{
+    if left == 0 {
+        lent::put_row(out, 0, row);
+        return 24;
+    }
+    do_branch(out, 0, left, row)
+}
+
 // The words of one product L R.
 pub struct ProductHelper {
     pub l_cre: u64,
@@ -208,7 +220,7 @@ fn write_rows(helper: ProductHelper, left: u64, out: &mut [u8]) -> Written
     requires { ⌜ Fitting helper left (length (now out)) ⌝ }
     ensures { λ r. ⌜ Gives (multiplied (helper .«l_cre») (helper .«l_ann») (helper .«r_cre») (helper .«r_ann») (length (now (out .entry)))) r (now (out .exit)) ⌝ }
 {
-    let end = do_branch(out, 0, left, helper.lowest_row(1));
+    let end = walk_from(out, left, helper.lowest_row(1));
     lent::wipe_from(out, end);
     Written {
         refusal: Refusal::NONE,
