@@ -25,7 +25,7 @@ use Rattle.record.specs.declared.Checked.{Checked}
 use Rattle.record.proofs.Refusals.{or-first, or-second}
 use Rattle.record.proofs.Accepted.{neither, accepted-laid, accepted-canonical, accepted-none, Accepted, accepted, refused}
 use Rattle.record.proofs.Inverse.{decode-modes, decode-terms, encode-accepted}
-use Rattle.lincomb.specs.Results.{pairRefusal, resultRefusal, recordOutput, resultOf, shut, openedOf}
+use Rattle.lincomb.specs.Results.{pairRefusal, resultRefusal, recordOutput, resultOf, shut, standing, openedOf}
 use Rattle.lincomb.specs.Merging.{Sound}
 use Rattle.lincomb.specs.Tallies.{Tallied}
 use Rattle.lincomb.specs.declared.Opened.{Opened}
@@ -117,32 +117,19 @@ module _ (a b : List ℕ) (z : (pairRefusal a b) .number ≡ 0) where
       (or-second none _ refl ∙ or-second none _ refl)
 
 module _ (a b : List ℕ) (p : Opened) (ep : p ≡ openedOf a b) where
-  opened : Bool → Opened
-  opened s =
-      cond s
-      (record {
-        refusal = none;
-        modes = modesOf a;
-        left = countOf a;
-        right = countOf b;
-        «left_weight» = weight (termsOf a);
-        «right_weight» = weight (termsOf b);
-      })
-      (shut (pairRefusal a b))
-
   pub shuts : (p .refusal .number ≡ 0 → ⊥) → p .refusal ≡ pairRefusal a b
-  unfolding openedOf opened
+  unfolding openedOf
   shuts h = go (eqb ((pairRefusal a b) .number) 0) ep
     where
-      go : (s : Bool) → p ≡ opened s → p .refusal ≡ pairRefusal a b
+      go : (s : Bool) → p ≡ cond s (standing a b) (shut (pairRefusal a b)) → p .refusal ≡ pairRefusal a b
       go true e = absurd (h (ap (λ (x : Opened). x .refusal .number) e))
       go false e = ap (λ (x : Opened). x .refusal) e
 
   pub opens : p .refusal .number ≡ 0 → Opens a b p
-  unfolding openedOf opened
+  unfolding openedOf
   opens z = go (eqb ((pairRefusal a b) .number) 0) refl ep
     where
-      go : (s : Bool) → eqb ((pairRefusal a b) .number) 0 ≡ s → p ≡ opened s → Opens a b p
+      go : (s : Bool) → eqb ((pairRefusal a b) .number) 0 ≡ s → p ≡ cond s (standing a b) (shut (pairRefusal a b)) → Opens a b p
       go true q e =
           let y = eqb-true _ _ q in
           record {

@@ -1,5 +1,5 @@
 -- No two answers, and no two outputs, meet a promise of this crate.
-use mathlib.Core.Path.{_≡_, sym, _∙_}
+use mathlib.Core.Path.{_≡_}
 use mathlib.Core.Bool.{Bool}
 use mathlib.Core.List.{List}
 use Prim.Native.Nat.{ℕ}
@@ -8,14 +8,11 @@ use Rattle.modes.specs.declared.Refusal.{Refusal}
 use Rattle.modes.specs.declared.Written.{Written}
 use Rattle.lent.specs.Outputs.{Gives, refusedOutput}
 use Rattle.lent.proofs.Outputs.{gives-one}
+use Rattle.record.proofs.Unique.{one}
 use Rattle.lincomb.specs.Normal.{join}
 use Rattle.lincomb.specs.Results.{openedOf, resultRefusal}
 use Rattle.lincomb.specs.Sums.{turn, added, subtracted}
 use Rattle.lincomb.specs.declared.Opened.{Opened}
-
--- what equals one value is one
-one : {A : Type 0} {x r s : A} → r ≡ x → s ≡ x → r ≡ s
-one p q = p ∙ sym q
 
 pub one-sum : (room : ℕ) (a b : List ℕ) (r s : Written) (x y : List ℕ) → Gives (added room a b) r x → Gives (added room a b) s y → (r ≡ s) × (x ≡ y)
 one-sum room a b r s x y = gives-one

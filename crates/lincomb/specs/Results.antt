@@ -31,19 +31,20 @@ recordOutput room branches r m ts = cond (eqb (r .number) 0) (filledOutput room 
 abbrev pub resultOf : ℕ → ℕ → Refusal → ℕ → List Term → Output
 resultOf room branches earlier m ts = recordOutput room branches (orElse earlier (resultRefusal room (length ts) (weight ts))) m ts
 
--- what is known of two records once they are checked
+-- what is known of two records once they are checked: all 0 after a refusal
 abbrev pub shut : Refusal → Opened
 shut r = record { refusal = r; modes = 0; left = 0; right = 0; «left_weight» = 0; «right_weight» = 0 }
 
-unfoldable pub openedOf : List ℕ → List ℕ → Opened
-openedOf a b =
-    cond (eqb ((pairRefusal a b) .number) 0)
-    (record {
+abbrev pub standing : List ℕ → List ℕ → Opened
+standing a b =
+    record {
       refusal = none;
       modes = modesOf a;
       left = countOf a;
       right = countOf b;
       «left_weight» = weight (termsOf a);
       «right_weight» = weight (termsOf b);
-    })
-    (shut (pairRefusal a b))
+    }
+
+unfoldable pub openedOf : List ℕ → List ℕ → Opened
+openedOf a b = cond (eqb ((pairRefusal a b) .number) 0) (standing a b) (shut (pairRefusal a b))
