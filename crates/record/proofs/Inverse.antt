@@ -11,7 +11,7 @@ use lib.ListN.{length, getD, take, drop, length-append, length-map}
 use lib.Seq.{drop-drop, take-add, take-all}
 use borrow.Author.Tests.{eq-eqb, le-leb}
 use mir.Syntax.{w64}
-use mir.Val.{SFits, Fits, toZ, ofZ}
+use mir.Val.{SFits, toZ}
 use mir.Facts.{toZ-ofZ, ofZ-toZ, fits-ofZ}
 use Rattle.modes.specs.declared.Term.{Term}
 use Rattle.modes.specs.Answers.{none as unrefused}
@@ -28,7 +28,7 @@ use Rattle.record.specs.Canonical.{Inside, Canonical}
 use Rattle.record.proofs.Numbers.{Below, empty, next, length-stored, numbers-stored, stored-numbers, numbers-same}
 use Rattle.record.proofs.Refusals.{or-second}
 use Rattle.record.proofs.Header.{Laid}
-use Rattle.record.proofs.Reading.{columnsAt, length-terms}
+use Rattle.record.proofs.Reading.{columnsAt, termAt, length-terms}
 use Rattle.record.proofs.Accepted.{Begins, none-refused, accepted-laid}
 
 -- every byte is below 256, as in any slice of bytes
@@ -37,58 +37,60 @@ Small l = (k : ℕ) → getD l k 0 < 256
 
 -- ---- the bytes of what was read
 
-module _ (l : List ℕ) where
-  ann-column : (a c z n : ℕ) → map (λ t. t .ann) (columnsAt l a c z n) ≡ numbers 8 l a n
+module _ (l : List ℕ) (small : Small l) where
+  -- f takes of each term what stands in the column at `at a c z`, one of the three
+  read-column : (f : Term → ℕ) (at : ℕ → ℕ → ℕ → ℕ) → ((a c z : ℕ) → at (a + 8) (c + 8) (z + 8) ≡ at a c z + 8)
+      → ((a c z : ℕ) → z + 8 ≤ length l → f (termAt l a c z) ≡ wordAt l (at a c z)) → (a c z n : ℕ) → z + 8 * n ≤ length l
+      → map f (columnsAt l a c z n) ≡ numbers 8 l (at a c z) n
   unfolding together numbers
-  ann-column a c z zero = refl
-  ann-column a c z (suc n) = ap (λ (xs : List ℕ). wordAt l a ∷ xs) (ann-column (a + 8) (c + 8) (z + 8) n)
+  read-column f at step here a c z zero h = refl
+  read-column f at step here a c z (suc n) h =
+      let m : 8 * suc n ≡ 8 * n + 8 = mul-suc 8 n in
+      ap₂ {C = List ℕ} (λ (x : ℕ) (xs : List ℕ). x ∷ xs) (here a c z (omega arith))
+      (read-column f at step here (a + 8) (c + 8) (z + 8) n (omega arith) ∙ ap (λ (o : ℕ). numbers 8 l o n) (step a c z))
 
-  cre-column : (a c z n : ℕ) → map (λ t. t .cre) (columnsAt l a c z n) ≡ numbers 8 l c n
-  unfolding together numbers
-  cre-column a c z zero = refl
-  cre-column a c z (suc n) = ap (λ (xs : List ℕ). wordAt l c ∷ xs) (cre-column (a + 8) (c + 8) (z + 8) n)
+  ann-column : (a c z n : ℕ) → z + 8 * n ≤ length l → map (λ t. t .ann) (columnsAt l a c z n) ≡ numbers 8 l a n
+  ann-column = read-column (λ t. t .ann) (λ a c z. a) (λ a c z. refl) (λ a c z h. refl)
 
-  module _ (small : Small l) where
-    bits-column : (a c z n : ℕ) → z + 8 * n ≤ length l → map bitsOf (columnsAt l a c z n) ≡ numbers 8 l z n
-    unfolding together numbers
-    bits-column a c z zero h = refl
-    bits-column a c z (suc n) h =
-        let m : 8 * suc n ≡ 8 * n + 8 = mul-suc 8 n in
-        let w : Fits w64 (wordAt l z) = record { fits = num-at-below 8 l z (omega arith) small } in
-        ap₂ {C = List ℕ} (λ (x : ℕ) (xs : List ℕ). x ∷ xs) (ofZ-toZ w) (bits-column (a + 8) (c + 8) (z + 8) n (omega arith))
+  cre-column : (a c z n : ℕ) → z + 8 * n ≤ length l → map (λ t. t .cre) (columnsAt l a c z n) ≡ numbers 8 l c n
+  cre-column = read-column (λ t. t .cre) (λ a c z. c) (λ a c z. refl) (λ a c z h. refl)
 
-    pub creations-read : (n : ℕ) → 32 + 24 * n ≤ length l → column (λ t. t .cre) (termsIn l n) ≡ take (8 * n) (drop (32 + 8 * n) l)
-    unfolding column termsIn
-    creations-read n h = rw (cre-column 32 (32 + 8 * n) (32 + 16 * n) n, stored-numbers 8 l (32 + 8 * n) n (omega arith) small)
+  bits-column : (a c z n : ℕ) → z + 8 * n ≤ length l → map bitsOf (columnsAt l a c z n) ≡ numbers 8 l z n
+  bits-column =
+      read-column bitsOf (λ a c z. z) (λ a c z. refl) (λ a c z h. ofZ-toZ {w = w64} (record { fits = num-at-below 8 l z h small }))
 
-    -- three stretches of k bytes
-    three : (k : ℕ) (d : List ℕ) → take k d ++ (take k (drop k d) ++ take k (drop (k + k) d)) ≡ take (k + (k + k)) d
-    three k d =
-        sym (take-add k (k + k) d ∙ ap (λ (z : List ℕ). take k d ++ z) (take-add k k (drop k d) ∙ rw (drop-drop k k d)))
+  pub creations-read : (n : ℕ) → 32 + 24 * n ≤ length l → column (λ t. t .cre) (termsIn l n) ≡ take (8 * n) (drop (32 + 8 * n) l)
+  unfolding column termsIn
+  creations-read n h = rw (cre-column 32 (32 + 8 * n) (32 + 16 * n) n (omega arith), stored-numbers 8 l (32 + 8 * n) n (omega arith) small)
 
-    pub columns-read : (n : ℕ) → 32 + 24 * n ≤ length l → columns (termsIn l n) ≡ take (24 * n) (drop 32 l)
-    unfolding columns column termsIn
-    columns-read n h =
-        let k : 24 * n ≡ 8 * n + (8 * n + 8 * n) = omega arith in
-        let e : 32 + (8 * n + 8 * n) ≡ 32 + 16 * n = omega arith in
-        let d : drop (32 + 16 * n) l ≡ drop (8 * n + 8 * n) (drop 32 l) = sym (drop-drop (8 * n + 8 * n) 32 l ∙ ap (λ (x : ℕ). drop x l) e) in
-        rw (
-          ann-column 32 (32 + 8 * n) (32 + 16 * n) n,
-          cre-column 32 (32 + 8 * n) (32 + 16 * n) n,
-          bits-column 32 (32 + 8 * n) (32 + 16 * n) n (omega arith),
-          stored-numbers 8 l 32 n (omega arith) small,
-          stored-numbers 8 l (32 + 8 * n) n (omega arith) small,
-          stored-numbers 8 l (32 + 16 * n) n (omega arith) small,
-          d,
-          ← drop-drop (8 * n) 32 l,
-          k,
-        ) (three (8 * n) (drop 32 l))
+  -- three stretches of k bytes
+  three : (k : ℕ) (d : List ℕ) → take k d ++ (take k (drop k d) ++ take k (drop (k + k) d)) ≡ take (k + (k + k)) d
+  three k d =
+      sym (take-add k (k + k) d ∙ ap (λ (z : List ℕ). take k d ++ z) (take-add k k (drop k d) ∙ rw (drop-drop k k d)))
 
-    pub encode-read : Laid l → encode (modesOf l) (termsOf l) ≡ l
-    unfolding header
-    encode-read laid =
-        rw (length-terms l (countOf l), ← laid .header, stored-numbers 4 l 0 8 (omega (arith, laid .size)) small, columns-read (countOf l) (omega (arith, laid .size)))
-        (sym (take-add 32 (24 * countOf l) l) ∙ take-all (32 + 24 * countOf l) l (omega (arith, laid .size)))
+  pub columns-read : (n : ℕ) → 32 + 24 * n ≤ length l → columns (termsIn l n) ≡ take (24 * n) (drop 32 l)
+  unfolding columns column termsIn
+  columns-read n h =
+      let k : 24 * n ≡ 8 * n + (8 * n + 8 * n) = omega arith in
+      let e : 32 + (8 * n + 8 * n) ≡ 32 + 16 * n = omega arith in
+      let d : drop (32 + 16 * n) l ≡ drop (8 * n + 8 * n) (drop 32 l) = sym (drop-drop (8 * n + 8 * n) 32 l ∙ ap (λ (x : ℕ). drop x l) e) in
+      rw (
+        ann-column 32 (32 + 8 * n) (32 + 16 * n) n (omega arith),
+        cre-column 32 (32 + 8 * n) (32 + 16 * n) n (omega arith),
+        bits-column 32 (32 + 8 * n) (32 + 16 * n) n (omega arith),
+        stored-numbers 8 l 32 n (omega arith) small,
+        stored-numbers 8 l (32 + 8 * n) n (omega arith) small,
+        stored-numbers 8 l (32 + 16 * n) n (omega arith) small,
+        d,
+        ← drop-drop (8 * n) 32 l,
+        k,
+      ) (three (8 * n) (drop 32 l))
+
+  pub encode-read : Laid l → encode (modesOf l) (termsOf l) ≡ l
+  unfolding header
+  encode-read laid =
+      rw (length-terms l (countOf l), ← laid .header, stored-numbers 4 l 0 8 (omega (arith, laid .size)) small, columns-read (countOf l) (omega (arith, laid .size)))
+      (sym (take-add 32 (24 * countOf l) l) ∙ take-all (32 + 24 * countOf l) l (omega (arith, laid .size)))
 
 -- ---- what is read of the bytes of terms
 

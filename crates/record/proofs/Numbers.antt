@@ -64,11 +64,6 @@ unfolding stored
 put-each w l o xs h =
     ap (λ (z : List ℕ). putEach w z o xs) (sym (put-none l o)) ∙ put-after w l o [] xs o h (rw (mul-zero w, add-zero o))
 
-pub length-numbers : (w : ℕ) (l : List ℕ) (o k : ℕ) → length (numbers w l o k) ≡ k
-unfolding numbers
-length-numbers w l o zero = refl
-length-numbers w l o (suc k) = ap suc (length-numbers w l (o + w) k)
-
 -- every number is below b
 pub data Below (b : ℕ) : List ℕ → Type 0 where
   empty : Below b []

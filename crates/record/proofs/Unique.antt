@@ -20,7 +20,7 @@ use Rattle.record.specs.declared.Tested.{Tested}
 use Rattle.record.specs.declared.Measured.{Measured}
 
 -- what equals one value is one
-one : {A : Type 0} {x r s : A} → r ≡ x → s ≡ x → r ≡ s
+pub one : {A : Type 0} {x r s : A} → r ≡ x → s ≡ x → r ≡ s
 one p q = p ∙ sym q
 
 pub one-check : (o : ℕ) (l : List ℕ) (r s : Checked) → r ≡ checkedOf o l → s ≡ checkedOf o l → r ≡ s

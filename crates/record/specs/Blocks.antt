@@ -14,12 +14,12 @@ unfoldable pub countIf : (Term → Bool) → List Term → ℕ
 countIf p [] = 0
 countIf p (t ∷ ts) = cond (p t) 1 0 + countIf p ts
 
--- the terms that stand before those with the annihilation word a; and these with those
+-- the term has an annihilation word below a; or, with past, one not above a
 abbrev pub upTo : Bool → ℕ → Term → Bool
 upTo false a t = ltb (t .ann) a
 upTo true a t = leb (t .ann) a
 
--- the terms with the annihilation word a are those from the first-th on, up to the past-th
+-- in a record, which ascends, the terms with the annihilation word a stand from this index on, and up to the other
 abbrev pub firstOf : List ℕ → ℕ → ℕ
 firstOf l a = countIf (upTo false a) (termsOf l)
 
@@ -29,7 +29,7 @@ pastOf l a = countIf (upTo true a) (termsOf l)
 abbrev pub emptyStretch : Stretch
 emptyStretch = record { start = 0; len = 0 }
 
--- the bytes of n terms' creation column from the first-th entry to the past-th
+-- these entries of the creation column of n terms, 8 bytes each; the empty part starts at 0
 abbrev pub stretch : ℕ → ℕ → ℕ → Stretch
 stretch n first past = cond (eqb first past) emptyStretch (record { start = 32 + 8 * n + 8 * first; len = 8 * (past - first) })
 

@@ -1,0 +1,22 @@
+-- The specification's example record added to itself, and taken from itself, with two bytes of output to spare: computed from the definitions.
+use mathlib.Core.Path.{_≡_, refl}
+use mathlib.Core.List.{[], _∷_, _++_}
+use lib.IntN.{pos, negsuc}
+use Rattle.modes.specs.Answers.{wrote}
+use Rattle.lent.specs.Bytes.{bytes, num, numAt, zeros}
+use Rattle.record.specs.Numbers.{stored, numbers, sameNumbers}
+use Rattle.record.specs.Terms.{before, weight}
+use Rattle.record.specs.Layout.{header, column, columns, encode, together, termsIn, laidOut}
+use Rattle.record.specs.Refusals.{orElse, inside, termRefusal, termsRefusal, refusalOf}
+use Rattle.record.proofs.Example.{example}
+use Rattle.lincomb.specs.Normal.{join, insert, collect, dropZeros}
+use Rattle.lincomb.specs.Results.{pairRefusal, resultRefusal, recordOutput}
+use Rattle.lincomb.specs.Sums.{added, subtracted}
+
+pub twice : (added 82 example example) .bytes ≡ encode 2 (record { cre = 1; ann = 1; coeff = pos 2 } ∷ record { cre = 2; ann = 2; coeff = negsuc 1 } ∷ []) ++ zeros 2
+unfolding example bytes num numAt stored numbers sameNumbers before weight header column columns together termsIn laidOut orElse inside termRefusal termsRefusal refusalOf join insert collect dropZeros pairRefusal resultRefusal recordOutput
+twice = refl
+
+pub nothing-left : (subtracted 34 example example) .answer ≡ wrote 32 0
+unfolding example bytes num numAt stored numbers sameNumbers before weight header column columns together termsIn laidOut orElse inside termRefusal termsRefusal refusalOf join insert collect dropZeros pairRefusal resultRefusal recordOutput
+nothing-left = refl

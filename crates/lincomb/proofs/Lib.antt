@@ -1,0 +1,9 @@
+pub mod Totals
+pub mod Normal
+pub mod Merging
+pub mod Tallying
+pub mod Writing
+pub mod Results
+pub mod Sums
+pub mod Example
+pub mod Unique

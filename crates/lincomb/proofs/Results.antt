@@ -1,0 +1,258 @@
+-- Calls of two records that write a record: their refusals case by case, and that what they write is accepted and holds the result.
+use mathlib.Core.Path.{_≡_, refl, sym, ap, _∙_, subst}
+use mathlib.Core.Bool.{Bool, true, false, cond}
+use mathlib.Core.List.{List, _++_}
+use mathlib.Core.Logic.{_⊎_, ⊎-elim}
+use Prim.Native.Nat.{ℕ, _+_, _*_, _-_, _^_, _≤_, _<_}
+use native.Mathlib.Omega.{arith}
+use lib.Dec.{eqb, leb}
+use lib.ListN.{length, take}
+use lib.Seq.{take-at}
+use borrow.Author.Tests.{eq-eqb, ne-eqb, le-leb, lt-leb, eqb-true, eqb-false, leb-true}
+use Rattle.modes.specs.declared.Term.{Term}
+use Rattle.modes.specs.declared.Refusal.{Refusal}
+use Rattle.modes.specs.declared.Written.{Written}
+use Rattle.modes.specs.Answers.{refusal, none}
+use Rattle.modes.proofs.Digits.{lt-or-ge}
+use Rattle.lent.specs.Bytes.{zeros}
+use Rattle.lent.specs.Every.{Every}
+use Rattle.lent.specs.Outputs.{Output, refusedOutput, filledOutput, Gives}
+use Rattle.record.specs.Terms.{Ascending, weight}
+use Rattle.record.specs.Layout.{encode, modesOf, countOf, termsOf}
+use Rattle.record.specs.Refusals.{orElse, refusalOf, checkedOf}
+use Rattle.record.specs.Canonical.{Inside, Nonzero, Canonical}
+use Rattle.record.specs.declared.Checked.{Checked}
+use Rattle.record.proofs.Refusals.{or-first, or-second}
+use Rattle.record.proofs.Accepted.{neither, accepted-laid, accepted-canonical, accepted-none, Accepted, accepted, refused}
+use Rattle.record.proofs.Inverse.{decode-modes, decode-terms, encode-accepted}
+use Rattle.lincomb.specs.Results.{pairRefusal, resultRefusal, recordOutput, resultOf, shut, standing, openedOf}
+use Rattle.lincomb.specs.Merging.{Sound}
+use Rattle.lincomb.specs.Tallies.{Tallied}
+use Rattle.lincomb.specs.declared.Opened.{Opened}
+use Rattle.lincomb.specs.declared.Tally.{Tally}
+
+-- ---- opening two records, p and q being what their checks answer
+
+shut-is : (a b : List ℕ) (r : Refusal) → pairRefusal a b ≡ r → (r .number ≡ 0 → ⊥) → shut r ≡ openedOf a b
+unfolding openedOf
+shut-is a b r e h = rw (e, ne-eqb _ _ h)
+
+module _ (a b : List ℕ) (p : Checked) (ep : p ≡ checkedOf 1 a) where
+  pub first-refused : (p .refusal .number ≡ 0 → ⊥) → shut (p .refusal) ≡ openedOf a b
+  unfolding pairRefusal
+  first-refused h =
+      let r : refusalOf 1 a ≡ p .refusal = sym (ap (λ (c : Checked). c .refusal) (refused 1 a p ep h)) in
+      shut-is a b (p .refusal) (rw r (or-first (p .refusal) _ h)) h
+
+  module _ (zp : p .refusal .number ≡ 0) (q : Checked) (eq : q ≡ checkedOf 2 b) where
+    left : Accepted 1 a p
+    left = accepted 1 a p ep zp
+
+    pub second-refused : (q .refusal .number ≡ 0 → ⊥) → shut (q .refusal) ≡ openedOf a b
+    unfolding pairRefusal
+    second-refused h =
+        let r : refusalOf 2 b ≡ q .refusal = sym (ap (λ (c : Checked). c .refusal) (refused 2 b q eq h)) in
+        shut-is a b (q .refusal) (rw (left .none, r) (or-second none _ refl ∙ or-first (q .refusal) _ h)) h
+
+    module _ (zq : q .refusal .number ≡ 0) where
+      right : Accepted 2 b q
+      right = accepted 2 b q eq zq
+
+      modes-a : p .modes ≡ modesOf a
+      modes-a = ap (λ (c : Checked). c .modes) (left .is)
+
+      modes-b : q .modes ≡ modesOf b
+      modes-b = ap (λ (c : Checked). c .modes) (right .is)
+
+      pub other-modes : (p .modes ≡ q .modes → ⊥) → shut (refusal 6 0 0) ≡ openedOf a b
+      unfolding pairRefusal
+      other-modes h =
+          shut-is a b (refusal 6 0 0)
+          (rw (left .none, right .none, ne-eqb (modesOf a) (modesOf b) (λ e. h (modes-a ∙ e ∙ sym modes-b))) (or-second none _ refl ∙ or-second none _ refl))
+          (λ e. absurd (omega arith))
+
+      pub both-open : p .modes ≡ q .modes
+          → _≡_ {A = Opened} (record { refusal = none; modes = p .modes; left = p .terms; right = q .terms; «left_weight» = p .weight; «right_weight» = q .weight }) (openedOf a b)
+      unfolding pairRefusal openedOf
+      both-open h =
+          let pair : pairRefusal a b ≡ none =
+          rw (left .none, right .none, eq-eqb (modesOf a) (modesOf b) (sym modes-a ∙ h ∙ modes-b)) (or-second none _ refl ∙ or-second none _ refl) in
+          rw (pair, left .is, right .is)
+
+-- ---- two records that are open
+
+pub record Opens (a b : List ℕ) (p : Opened) : Type 0 where
+  pub pair : pairRefusal a b ≡ none
+  pub one : (refusalOf 1 a) .number ≡ 0
+  pub two : (refusalOf 2 b) .number ≡ 0
+  pub same : modesOf a ≡ modesOf b
+  pub modes : p .modes ≡ modesOf a
+  pub left : p .left ≡ countOf a
+  pub right : p .right ≡ countOf b
+
+-- a pair that is not refused
+module _ (a b : List ℕ) (z : (pairRefusal a b) .number ≡ 0) where
+  pub first-fine : (refusalOf 1 a) .number ≡ 0
+  unfolding pairRefusal
+  first-fine = neither _ _ z .0
+
+  rest-fine : (orElse (refusalOf 2 b) (cond (eqb (modesOf a) (modesOf b)) none (refusal 6 0 0))) .number ≡ 0
+  unfolding pairRefusal
+  rest-fine = neither _ _ z .1
+
+  pub second-fine : (refusalOf 2 b) .number ≡ 0
+  second-fine = neither _ _ rest-fine .0
+
+  pub same-modes : modesOf a ≡ modesOf b
+  same-modes = go (eqb (modesOf a) (modesOf b)) refl (neither _ _ rest-fine .1)
+    where
+      go : (s : Bool) → eqb (modesOf a) (modesOf b) ≡ s → (cond s none (refusal 6 0 0)) .number ≡ 0 → modesOf a ≡ modesOf b
+      go true e h = eqb-true _ _ e
+      go false e h = absurd (omega arith)
+
+  pub pair-none : pairRefusal a b ≡ none
+  unfolding pairRefusal
+  pair-none =
+      rw (accepted-none 1 a first-fine, accepted-none 2 b second-fine, eq-eqb (modesOf a) (modesOf b) same-modes)
+      (or-second none _ refl ∙ or-second none _ refl)
+
+module _ (a b : List ℕ) (p : Opened) (ep : p ≡ openedOf a b) where
+  pub shuts : (p .refusal .number ≡ 0 → ⊥) → p .refusal ≡ pairRefusal a b
+  unfolding openedOf
+  shuts h = go (eqb ((pairRefusal a b) .number) 0) ep
+    where
+      go : (s : Bool) → p ≡ cond s (standing a b) (shut (pairRefusal a b)) → p .refusal ≡ pairRefusal a b
+      go true e = absurd (h (ap (λ (x : Opened). x .refusal .number) e))
+      go false e = ap (λ (x : Opened). x .refusal) e
+
+  pub opens : p .refusal .number ≡ 0 → Opens a b p
+  unfolding openedOf
+  opens z = go (eqb ((pairRefusal a b) .number) 0) refl ep
+    where
+      go : (s : Bool) → eqb ((pairRefusal a b) .number) 0 ≡ s → p ≡ cond s (standing a b) (shut (pairRefusal a b)) → Opens a b p
+      go true q e =
+          let y = eqb-true _ _ q in
+          record {
+            pair = pair-none a b y;
+            one = first-fine a b y;
+            two = second-fine a b y;
+            same = same-modes a b y;
+            modes = ap (λ (x : Opened). x .modes) e;
+            left = ap (λ (x : Opened). x .left) e;
+            right = ap (λ (x : Opened). x .right) e;
+          }
+      go false q e = absurd (eqb-false _ _ q (ap (λ (x : Opened). x .refusal .number) (sym e) ∙ z))
+
+-- the terms of an accepted record can be read, and weigh no more than the ceiling
+pub sound : (o : ℕ) (l : List ℕ) (n : ℕ) → (refusalOf o l) .number ≡ 0 → n ≡ countOf l → Sound l n
+sound o l n e q = record { size = omega (arith, accepted-laid o l e .size); light = rw q (accepted-canonical o l e .light) }
+
+-- ---- 10, 9 and 11
+
+module _ (room n w : ℕ) where
+  pub too-many : 2048 < n → refusal 10 0 0 ≡ resultRefusal room n w
+  unfolding resultRefusal
+  too-many h = rw (lt-leb _ _ h) (sym (or-first (refusal 10 0 0) _ (λ e. absurd (omega arith))))
+
+  module _ (few : n ≤ 2048) where
+    pub too-heavy : 2 ^ 60 < w → refusal 9 0 0 ≡ resultRefusal room n w
+    unfolding resultRefusal
+    too-heavy h = rw (le-leb _ _ few, lt-leb _ _ h) (sym (or-second none _ refl ∙ or-first (refusal 9 0 0) _ (λ e. absurd (omega arith))))
+
+    module _ (light : w ≤ 2 ^ 60) where
+      pub too-long : room < 32 + 24 * n → refusal 11 0 0 ≡ resultRefusal room n w
+      unfolding resultRefusal
+      too-long h = rw (le-leb _ _ few, le-leb _ _ light, lt-leb _ _ h) (sym (or-second none _ refl ∙ or-second none _ refl))
+
+      pub none-late : 32 + 24 * n ≤ room → none ≡ resultRefusal room n w
+      unfolding resultRefusal
+      none-late h = rw (le-leb _ _ few, le-leb _ _ light, le-leb _ _ h) (sym (or-second none _ refl ∙ or-second none _ refl))
+
+-- a result that neither 10 nor 9 nor 11 refuses
+pub record Deliverable (room n w : ℕ) : Type 0 where
+  pub few : n ≤ 2048
+  pub light : w ≤ 2 ^ 60
+  pub long : 32 + 24 * n ≤ room
+
+pub deliverable : (room n w : ℕ) → (resultRefusal room n w) .number ≡ 0 → Deliverable room n w
+unfolding resultRefusal
+deliverable room n w e =
+    let one = neither (cond (leb n 2048) none (refusal 10 0 0)) _ e in
+    let two = neither (cond (leb w (2 ^ 60)) none (refusal 9 0 0)) _ (one .1) in
+    record { few = kept n 2048 10 (one .0) (λ h. absurd (omega arith)); light = kept w (2 ^ 60) 9 (two .0) (λ h. absurd (omega arith)); long = kept (32 + 24 * n) room 11 (two .1) (λ h. absurd (omega arith)) }
+  where
+    kept : (x y k : ℕ) → (cond (leb x y) none (refusal k 0 0)) .number ≡ 0 → (k ≡ 0 → ⊥) → x ≤ y
+    kept x y k = go (leb x y) refl
+      where
+        go : (s : Bool) → leb x y ≡ s → (cond s none (refusal k 0 0)) .number ≡ 0 → (k ≡ 0 → ⊥) → x ≤ y
+        go true q z h = leb-true x y q
+        go false q z h = absurd (h z)
+
+-- what was counted and weighed as far as the ceiling is judged as the terms are
+pub verdict-same : (room : ℕ) (ts : List Term) (r : Tally) → Tallied ts r → resultRefusal room (r .terms) (r .weight) ≡ resultRefusal room (length ts) (weight ts)
+unfolding resultRefusal
+verdict-same room ts r g =
+    ⊎-elim (λ h. rw (g .terms, lt-leb _ _ h, lt-leb _ _ (g .heavy h))) (λ h. rw (g .terms, g .light h)) (lt-or-ge (2 ^ 60) (r .weight))
+
+-- ---- the output
+
+module _ (room branches : ℕ) (earlier : Refusal) (m : ℕ) (ts : List Term) where
+  pub refused-earlier : (earlier .number ≡ 0 → ⊥) → refusedOutput room earlier ≡ resultOf room branches earlier m ts
+  unfolding recordOutput
+  refused-earlier h = rw (or-first earlier (resultRefusal room (length ts) (weight ts)) h, ne-eqb _ _ h)
+
+  module _ (fine : earlier ≡ none) (late : Refusal) (is : late ≡ resultRefusal room (length ts) (weight ts)) where
+    pub refused-late : (late .number ≡ 0 → ⊥) → refusedOutput room late ≡ resultOf room branches earlier m ts
+    unfolding recordOutput
+    refused-late h = rw (fine, ← is, or-second none late refl, ne-eqb _ _ h)
+
+    pub delivers : late .number ≡ 0 → filledOutput room branches (encode m ts) ≡ resultOf room branches earlier m ts
+    unfolding recordOutput
+    delivers h = rw (fine, ← is, or-second none late refl, eq-eqb _ _ h)
+
+pub gives-as : {o q : Output} {r : Written} {x : List ℕ} → o ≡ q → Gives o r x → Gives q r x
+gives-as {o} {q} {r} {x} e g = subst (λ (y : Output). Gives y r x) e g
+
+-- a call that is not refused
+module _ (room branches : ℕ) (earlier : Refusal) (m : ℕ) (ts : List Term) (r : Written) (after : List ℕ)
+    (g : Gives (resultOf room branches earlier m ts) r after) (z : r .refusal .number ≡ 0) where
+  abbrev whole : Refusal
+  whole = orElse earlier (resultRefusal room (length ts) (weight ts))
+
+  not-refused : (whole .number ≡ 0) × (resultOf room branches earlier m ts ≡ filledOutput room branches (encode m ts))
+  unfolding recordOutput
+  not-refused = go (eqb (whole .number) 0) refl (g .answer)
+    where
+      go : (s : Bool) → eqb (whole .number) 0 ≡ s
+          → r ≡ (cond s (filledOutput room branches (encode m ts)) (refusedOutput room whole)) .answer
+          → (whole .number ≡ 0) × (cond s (filledOutput room branches (encode m ts)) (refusedOutput room whole) ≡ filledOutput room branches (encode m ts))
+      go true e p = (eqb-true _ _ e, refl)
+      go false e p = absurd (eqb-false _ _ e (ap (λ (w : Written). w .refusal .number) (sym p) ∙ z))
+
+  pub result-earlier : earlier .number ≡ 0
+  result-earlier = neither earlier (resultRefusal room (length ts) (weight ts)) (not-refused .0) .0
+
+  pub result-deliverable : Deliverable room (length ts) (weight ts)
+  result-deliverable = deliverable room (length ts) (weight ts) (neither earlier (resultRefusal room (length ts) (weight ts)) (not-refused .0) .1)
+
+  -- the bytes of the answer's length are the record
+  pub result-record : take (r .len) after ≡ encode m ts
+  result-record =
+      let bytes : after ≡ encode m ts ++ zeros (room - length (encode m ts)) = g .bytes ∙ ap (λ (o : Output). o .bytes) (not-refused .1) in
+      let len : r .len ≡ length (encode m ts) = ap (λ (w : Written). w .len) (g .answer ∙ ap (λ (o : Output). o .answer) (not-refused .1)) in
+      ap (take (r .len)) bytes ∙ take-at (encode m ts) _ (r .len) (sym len)
+
+  -- THE OUTPUT OF A CALL. Where the result ascends, has no zeros and holds only modes below m, the record is accepted, and its terms are the result
+  module _ (some : 1 ≤ m) (most : m ≤ 64) (within : Every (Inside m) ts) (ascending : Ascending ts) (nonzero : Every Nonzero ts) where
+    pub result-canonical : Canonical m ts
+    result-canonical =
+        record { some = some; most = most; few = result-deliverable .few; inside = within; ascending = ascending; nonzero = nonzero; light = result-deliverable .light }
+
+    pub result-accepted : (o : ℕ) → refusalOf o (take (r .len) after) ≡ none
+    result-accepted o = ap (refusalOf o) result-record ∙ encode-accepted m ts result-canonical o
+
+    pub result-modes : modesOf (take (r .len) after) ≡ m
+    result-modes = ap modesOf result-record ∙ decode-modes m ts result-canonical
+
+    pub result-terms : termsOf (take (r .len) after) ≡ ts
+    result-terms = ap termsOf result-record ∙ decode-terms m ts result-canonical

@@ -1,0 +1,143 @@
+-- The sum and the difference of two records: each way through the call, and that the elements add up.
+use mathlib.Core.Path.{_≡_, sym, ap, ap₂, _∙_}
+use mathlib.Core.Bool.{Bool, true, false}
+use mathlib.Core.List.{List, _++_, map}
+use Prim.Native.Nat.{ℕ, _+_, _*_, _-_}
+use lib.IntN.{ℤ, negℤ, _+ℤ_}
+use lib.ListN.{length, take}
+use Rattle.modes.specs.declared.Term.{Term}
+use Rattle.modes.specs.declared.Refusal.{Refusal}
+use Rattle.modes.specs.declared.Written.{Written}
+use Rattle.modes.specs.Answers.{none, wrote}
+use Rattle.lent.specs.Bytes.{put, zeros}
+use Rattle.lent.specs.Every.{Every}
+use Rattle.lent.specs.Outputs.{refusedOutput, filledOutput, Gives}
+use Rattle.products.specs.Operators.{signed, element}
+use Rattle.record.specs.Terms.{weight}
+use Rattle.record.specs.Layout.{header, columns, encode, modesOf, termsOf}
+use Rattle.record.specs.Refusals.{refusalOf}
+use Rattle.record.specs.Canonical.{Inside, Canonical}
+use Rattle.record.proofs.Accepted.{accepted-canonical}
+use Rattle.record.proofs.Columns.{record-written}
+use Rattle.record.proofs.Inverse.{length-encode}
+use Rattle.lincomb.specs.Normal.{join, dropZeros, normal}
+use Rattle.lincomb.specs.Results.{pairRefusal, resultRefusal, openedOf}
+use Rattle.lincomb.specs.Sums.{turn, sumTerms, combined, added, subtracted}
+use Rattle.lincomb.specs.Merging.{Sound, onward}
+use Rattle.lincomb.specs.Tallies.{Tallied}
+use Rattle.lincomb.specs.declared.Opened.{Opened}
+use Rattle.lincomb.specs.declared.Tally.{Tally}
+use Rattle.lincomb.proofs.Totals.{element-append, element-normal, element-turn}
+use Rattle.lincomb.proofs.Normal.{every-append, every-map, every-normal, ascending-turn, normal-ascending, normal-nonzero}
+use Rattle.lincomb.proofs.Merging.{merge-normal}
+use Rattle.lincomb.proofs.Results.{Opens, opens, shuts, sound, first-fine, second-fine, same-modes, Deliverable, deliverable, verdict-same, refused-earlier, refused-late, delivers, gives-as, result-earlier, result-accepted, result-modes, result-terms}
+
+-- ---- each way through the call
+
+module _ (minus : Bool) (a b out : List ℕ) (p : Opened) (ep : p ≡ openedOf a b) where
+  pub pair-refused : (p .refusal .number ≡ 0 → ⊥) → refusedOutput (length out) (p .refusal) ≡ combined minus (length out) a b
+  pair-refused h =
+      let e = shuts a b p ep h in
+      rw e (refused-earlier (length out) 0 (pairRefusal a b) (modesOf a) (sumTerms minus a b) (λ q. h (ap (λ (r : Refusal). r .number) e ∙ q)))
+
+  module _ (z : p .refusal .number ≡ 0) where
+    ready : Opens a b p
+    ready = opens a b p ep z
+
+    pub sound-left : Sound a (p .left)
+    sound-left = sound 1 a (p .left) (ready .one) (ready .left)
+
+    pub sound-right : Sound b (p .right)
+    sound-right = sound 2 b (p .right) (ready .two) (ready .right)
+
+    -- the terms that the code goes through
+    abbrev pub terms : List Term
+    terms = dropZeros (onward minus a (p .left) b (p .right) 0 0)
+
+    terms-are : terms ≡ sumTerms minus a b
+    terms-are =
+        rw (ready .left, ready .right)
+        (merge-normal (termsOf a) (map (turn minus) (termsOf b)) (accepted-canonical 1 a (ready .one) .ascending)
+        (ascending-turn minus (termsOf b) (accepted-canonical 2 b (ready .two) .ascending)))
+
+    module _ (t : Tally) (g : Tallied terms t) (late : Refusal) (el : late ≡ resultRefusal (length out) (t .terms) (t .weight)) where
+      judged : late ≡ resultRefusal (length out) (length (sumTerms minus a b)) (weight (sumTerms minus a b))
+      judged =
+          el ∙ verdict-same (length out) terms t g ∙ ap (λ (ts : List Term). resultRefusal (length out) (length ts) (weight ts)) terms-are
+
+      pub result-refused : (late .number ≡ 0 → ⊥) → refusedOutput (length out) late ≡ combined minus (length out) a b
+      result-refused h = refused-late (length out) 0 (pairRefusal a b) (modesOf a) (sumTerms minus a b) (ready .pair) late judged h
+
+      module _ (fine : late .number ≡ 0) where
+        pub room-enough : Deliverable (length out) (t .terms) (t .weight)
+        room-enough = deliverable (length out) (t .terms) (t .weight) (ap (λ (r : Refusal). r .number) (sym el) ∙ fine)
+
+        -- what the stores leave
+        pub result-given : (one two three : List ℕ) → one ≡ put out 0 (header (p .modes) (t .terms)) → two ≡ put one 32 (columns terms)
+            → three ≡ take (32 + 24 * t .terms) two ++ zeros (length two - (32 + 24 * t .terms))
+            → Gives (combined minus (length out) a b) (wrote (32 + 24 * t .terms) 0) three
+        result-given one two three e1 e2 e3 =
+            let written = record-written out one two three (p .modes) (t .terms) terms (g .terms) (room-enough .long) e1 e2 e3 in
+            let len : 32 + 24 * t .terms ≡ length (encode (p .modes) terms) = ap (λ (n : ℕ). 32 + 24 * n) (g .terms) ∙ sym (length-encode (p .modes) terms) in
+            gives-as
+            (ap₂ (λ (m : ℕ) (ts : List Term). filledOutput (length out) 0 (encode m ts)) (ready .modes) terms-are
+            ∙ delivers (length out) 0 (pairRefusal a b) (modesOf a) (sumTerms minus a b) (ready .pair) late judged fine)
+            (record { answer = ap (λ (n : ℕ). wrote n 0) len; bytes = written })
+
+-- ---- the theorems, of the bytes that a call leaves where it is not refused
+
+inside-turn : (m : ℕ) (minus : Bool) (t : Term) → Inside m t → Inside m (turn minus t)
+inside-turn m minus t h = record { ann = h .ann; cre = h .cre }
+
+inside-joins : (m : ℕ) (t u : Term) → Inside m t → Inside m u → Inside m (join t u)
+unfolding join
+inside-joins m t u h k = record { ann = k .ann; cre = k .cre }
+
+-- any list of terms of two accepted records of one mode count, with any signs, has a normal form within these modes
+within-sum : (m : ℕ) (minus : Bool) (ts us : List Term) → Every (Inside m) ts → Every (Inside m) us → Every (Inside m) (normal (ts ++ map (turn minus) us))
+within-sum m minus ts us h k =
+    every-normal (inside-joins m) (ts ++ map (turn minus) us) (every-append ts (map (turn minus) us) h (every-map (turn minus) us (inside-turn m minus) k))
+
+module _ (minus : Bool) (room : ℕ) (a b : List ℕ) (r : Written) (after : List ℕ) (g : Gives (combined minus room a b) r after) (z : r .refusal .number ≡ 0) where
+  pair : (pairRefusal a b) .number ≡ 0
+  pair = result-earlier room 0 (pairRefusal a b) (modesOf a) (sumTerms minus a b) r after g z
+
+  left : Canonical (modesOf a) (termsOf a)
+  left = accepted-canonical 1 a (first-fine a b pair)
+
+  within : Every (Inside (modesOf a)) (sumTerms minus a b)
+  within =
+      within-sum (modesOf a) minus (termsOf a) (termsOf b) (left .inside)
+      (rw (same-modes a b pair) (accepted-canonical 2 b (second-fine a b pair) .inside))
+
+  -- the output's record is accepted
+  pub sum-accepted : (o : ℕ) → refusalOf o (take (r .len) after) ≡ none
+  sum-accepted =
+      result-accepted room 0 (pairRefusal a b) (modesOf a) (sumTerms minus a b) r after g z (left .some) (left .most) within
+      (normal-ascending (termsOf a ++ map (turn minus) (termsOf b))) (normal-nonzero (termsOf a ++ map (turn minus) (termsOf b)))
+
+  pub sum-modes : modesOf (take (r .len) after) ≡ modesOf a
+  sum-modes =
+      result-modes room 0 (pairRefusal a b) (modesOf a) (sumTerms minus a b) r after g z (left .some) (left .most) within
+      (normal-ascending (termsOf a ++ map (turn minus) (termsOf b))) (normal-nonzero (termsOf a ++ map (turn minus) (termsOf b)))
+
+  pub sum-terms : termsOf (take (r .len) after) ≡ sumTerms minus a b
+  sum-terms =
+      result-terms room 0 (pairRefusal a b) (modesOf a) (sumTerms minus a b) r after g z (left .some) (left .most) within
+      (normal-ascending (termsOf a ++ map (turn minus) (termsOf b))) (normal-nonzero (termsOf a ++ map (turn minus) (termsOf b)))
+
+  -- its elements are those of the first record plus those of the second, with the sign
+  pub sum-elements : (bra ket : ℕ) → element bra ket (termsOf (take (r .len) after)) ≡ element bra ket (termsOf a) +ℤ signed minus (element bra ket (termsOf b))
+  sum-elements bra ket =
+      ap (element bra ket) sum-terms ∙ element-normal bra ket (termsOf a ++ map (turn minus) (termsOf b))
+      ∙ element-append bra ket (termsOf a) (map (turn minus) (termsOf b)) ∙ ap (λ (x : ℤ). element bra ket (termsOf a) +ℤ x) (element-turn bra ket minus (termsOf b))
+
+-- ADD: at every bra and ket the element of what is written is the sum of the two records' elements
+pub add-elements : (room : ℕ) (a b : List ℕ) (r : Written) (after : List ℕ) → Gives (added room a b) r after → r .refusal .number ≡ 0 → (bra ket : ℕ)
+    → element bra ket (termsOf (take (r .len) after)) ≡ element bra ket (termsOf a) +ℤ element bra ket (termsOf b)
+add-elements = sum-elements false
+
+-- SUB: and their difference
+pub sub-elements : (room : ℕ) (a b : List ℕ) (r : Written) (after : List ℕ) → Gives (subtracted room a b) r after → r .refusal .number ≡ 0 → (bra ket : ℕ)
+    → element bra ket (termsOf (take (r .len) after)) ≡ element bra ket (termsOf a) +ℤ negℤ (element bra ket (termsOf b))
+sub-elements = sum-elements true

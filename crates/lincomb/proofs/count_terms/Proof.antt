@@ -1,0 +1,73 @@
+-- `lincomb::count_terms` meets its contract. The invariant: what is counted, with what is left, makes the whole.
+use borrow.Author.Needs.{needs}
+use Prim.Native.Nat.{_+_, _-_, _≤_}
+use native.Mathlib.Omega.{arith}
+use Rattle.lincomb.specs.Merging.{onward}
+use Rattle.lincomb.proofs.Merging.{spent}
+use Rattle.lincomb.proofs.Tallying.{Tallying, tally-starts, tally-goes, tally-ends}
+use Rattle.lincomb.proofs.count_terms.Statement.{statement}
+use Rattle.lincomb.proofs.count_terms.Tie as tie
+
+abbrev Inv-loop : tie.InvT-loop
+Inv-loop sign a na b nb i₀ j₀ n₀ w₀ i j n w = (i ≤ na) × (j ≤ nb) × (n ≤ i + j) × Tallying (onward (sign .0) a na b nb 0 0) (onward (sign .0) a na b nb i j) n w
+
+abbrev μ-loop : tie.MeasureT-loop
+μ-loop sign a na b nb i₀ j₀ n₀ w₀ i j n w = na + nb - (i + j)
+
+loop-holds : tie.Need-loop-holds Inv-loop μ-loop
+loop-holds c = (search needs, search needs, search needs, tally-starts _)
+
+add-loop : tie.Need-add-loop Inv-loop μ-loop
+add-loop c = search needs
+
+add-loop-2 : tie.Need-add-loop-2 Inv-loop μ-loop
+add-loop-2 c = search needs
+
+next-requires : tie.Need-next-requires Inv-loop μ-loop
+next-requires c κs = (c .before .before .before .before .pre, search needs)
+
+size-requires : tie.Need-size-requires Inv-loop μ-loop
+size-requires c κs = search needs
+
+kept-requires : tie.Need-kept-requires Inv-loop μ-loop
+kept-requires c κs = search needs
+
+add-n : tie.Need-add-n Inv-loop μ-loop
+add-n c = omega (arith, c .kept .ensures .1, c .before .before .before .before .before .loop .inv)
+
+heavier-requires : tie.Need-heavier-requires Inv-loop μ-loop
+heavier-requires c κs = search needs
+
+loop-less : tie.Need-loop-less Inv-loop μ-loop
+loop-less c = search needs
+
+loop-again : tie.Need-loop-again Inv-loop μ-loop
+loop-again c =
+    let s = c .before .before .before .before .next .ensures in
+    let v = c .before .before .before .before .before .before .loop .inv in (
+      s .left-in,
+      s .right-in,
+      omega (arith, c .before .kept .ensures .1, v .2, s .on),
+      tally-goes _ _ _ _ _ (v .3) _ (s .front) _ _ _ (c .before .before .size .ensures .0) (c .before .kept .ensures .0) (c .heavier .ensures),
+    )
+
+returns : tie.Need-returns Inv-loop μ-loop
+returns c = let v = c .before .loop .inv in tally-ends _ _ _ _ (v .3) (spent (c .before .before .before .before .args .sign .0) _ _ _ _ _ _ (v .0) (v .1) (omega arith))
+
+pub count-terms-spec : {M : Type 1} → statement M
+count-terms-spec =
+    tie.close
+    (tie.spec
+    Inv-loop
+    μ-loop
+    loop-holds
+    add-loop
+    add-loop-2
+    next-requires
+    size-requires
+    kept-requires
+    add-n
+    heavier-requires
+    loop-less
+    loop-again
+    returns)

@@ -1,0 +1,47 @@
+-- `lincomb::open_pair` meets its contract: the first record, the second, then 6.
+use mathlib.Core.Path.{_∙_}
+use Rattle.lincomb.proofs.Results.{first-refused, second-refused, other-modes, both-open}
+use borrow.Author.Needs.{needs}
+use Rattle.lincomb.proofs.open_pair.Statement.{statement}
+use Rattle.lincomb.proofs.open_pair.Tie as tie
+
+check-requires : tie.Need-check-requires
+check-requires c κs = search needs
+
+refused-requires : tie.Need-refused-requires
+refused-requires c κs = search needs
+
+returns : tie.Need-returns
+returns c = c .refused .ensures ∙ first-refused _ _ _ (c .before .before .before .before .check .ensures) (c .before .before .if1 .taken)
+
+check-requires-2 : tie.Need-check-requires-2
+check-requires-2 c κs = search needs
+
+refused-requires-2 : tie.Need-refused-requires-2
+refused-requires-2 c κs = search needs
+
+returns-2 : tie.Need-returns-2
+returns-2 c = c .refused2 .ensures ∙ second-refused _ _ _ (c .before .before .before .before .before .before .before .check .ensures) (c .before .before .before .before .before .if1 .left) _ (c .before .before .before .before .check2 .ensures) (c .before .before .if2 .taken)
+
+refused-requires-3 : tie.Need-refused-requires-3
+refused-requires-3 c κs = search needs
+
+returns-3 : tie.Need-returns-3
+returns-3 c = c .refused3 .ensures ∙ other-modes _ _ _ (c .before .before .before .before .before .before .before .before .before .check .ensures) (c .before .before .before .before .before .before .before .if1 .left) _ (c .before .before .before .before .before .before .check2 .ensures) (c .before .before .before .before .if2 .left) (c .before .if3 .taken)
+
+returns-4 : tie.Need-returns-4
+returns-4 c = both-open _ _ _ (c .before .before .before .before .before .before .before .before .check .ensures) (c .before .before .before .before .before .before .if1 .left) _ (c .before .before .before .before .before .check2 .ensures) (c .before .before .before .if2 .left) (c .if3 .left)
+
+pub open-pair-spec : {M : Type 1} → statement M
+open-pair-spec =
+    tie.close
+    (tie.spec
+    check-requires
+    refused-requires
+    returns
+    check-requires-2
+    refused-requires-2
+    returns-2
+    refused-requires-3
+    returns-3
+    returns-4)

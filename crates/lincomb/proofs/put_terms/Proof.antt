@@ -1,0 +1,89 @@
+-- `lincomb::put_terms` meets its contract. The invariant: the terms so far stand in their columns, and the rest is to come.
+use borrow.Author.Needs.{needs}
+use mathlib.Core.Path.{sym, _∙_}
+use Prim.Native.Nat.{_+_, _-_, _≤_}
+use native.Mathlib.Omega.{arith}
+use Rattle.lincomb.specs.Merging.{onward}
+use Rattle.lincomb.proofs.Merging.{spent}
+use Rattle.lincomb.proofs.Writing.{Writing, writing-starts, writing-ends, in-room, leaves-out, has-place, writes}
+use Rattle.lincomb.proofs.put_terms.Statement.{statement}
+use Rattle.lincomb.proofs.put_terms.Tie as tie
+
+abbrev Inv-loop : tie.InvT-loop
+Inv-loop sign a na b nb out₀ n i₀ j₀ k₀ out i j k = (i ≤ na) × (j ≤ nb) × Writing out₀ n (onward (sign .0) a na b nb 0 0) (onward (sign .0) a na b nb i j) k out
+
+abbrev μ-loop : tie.MeasureT-loop
+μ-loop sign a na b nb out₀ n i₀ j₀ k₀ out i j k = na + nb - (i + j)
+
+loop-holds : tie.Need-loop-holds Inv-loop μ-loop
+loop-holds c = (search needs, search needs, writing-starts _ _ _)
+
+add-loop : tie.Need-add-loop Inv-loop μ-loop
+add-loop c = search needs
+
+add-loop-2 : tie.Need-add-loop-2 Inv-loop μ-loop
+add-loop-2 c = search needs
+
+next-requires : tie.Need-next-requires Inv-loop μ-loop
+next-requires c κs = (c .before .before .before .before .before .pre .0, search needs)
+
+size-requires : tie.Need-size-requires Inv-loop μ-loop
+size-requires c κs = search needs
+
+put-term-requires : tie.Need-put-term-requires Inv-loop μ-loop
+put-term-requires c κs =
+    let r = in-room _ _ _ _ (c .before .before .before .before .before .before .before .before .before .before .pre .1 .0) (c .before .before .before .before .before .before .before .before .before .before .pre .1 .1) _ _ (c .before .before .before .before .before .before .loop .inv .2) in
+    (omega (arith, r, c .before .before .before .before .before .before .before .before .before .before .pre .1 .1), has-place _ _ _ _ (c .before .before .before .before .before .before .before .before .before .before .pre .1 .0) (c .before .before .before .before .before .before .before .before .before .before .pre .1 .1) _ _ (c .before .before .before .before .before .before .loop .inv .2) _ _ (c .before .before .before .before .next .ensures .front) (λ e. c .before .if1 .taken (c .before .before .size .ensures .0 ∙ e)))
+
+add-k : tie.Need-add-k Inv-loop μ-loop
+add-k c = omega (arith, has-place _ _ _ _ (c .before .before .before .before .before .before .before .before .before .before .before .before .before .pre .1 .0) (c .before .before .before .before .before .before .before .before .before .before .before .before .before .pre .1 .1) _ _ (c .before .before .before .before .before .before .before .before .before .loop .inv .2) _ _ (c .before .before .before .before .before .before .before .next .ensures .front) (λ e. c .before .before .before .before .if1 .taken (c .before .before .before .before .before .size .ensures .0 ∙ e)))
+
+loop-less : tie.Need-loop-less Inv-loop μ-loop
+loop-less c = search needs
+
+loop-again : tie.Need-loop-again Inv-loop μ-loop
+loop-again c =
+    let s = c .before .before .before .before .before .before .before .next .ensures in (
+      s .left-in,
+      s .right-in,
+      writes _ _ _ _ (c .before .before .before .before .before .before .before .before .before .before .before .before .before .pre .1 .0) (c .before .before .before .before .before .before .before .before .before .before .before .before .before .pre .1 .1) _ _ (c .before .before .before .before .before .before .before .before .before .loop .inv .2) _ _ (s .front) (λ e. c .before .before .before .before .if1 .taken (c .before .before .before .before .before .size .ensures .0 ∙ e)) _ (c .before .before .put-term .ensures),
+    )
+
+loop-less-2 : tie.Need-loop-less-2 Inv-loop μ-loop
+loop-less-2 c = search needs
+
+loop-again-2 : tie.Need-loop-again-2 Inv-loop μ-loop
+loop-again-2 c =
+    let s = c .before .before .before .next .ensures in (
+      s .left-in,
+      s .right-in,
+      leaves-out _ _ _ _ (c .before .before .before .before .before .before .before .before .before .pre .1 .0) (c .before .before .before .before .before .before .before .before .before .pre .1 .1) _ _ (c .before .before .before .before .before .loop .inv .2) _ _ (s .front) (sym (c .before .size .ensures .0) ∙ c .if1 .left),
+    )
+
+same-length : tie.Need-same-length Inv-loop μ-loop
+same-length c = in-room _ _ _ _ (c .before .before .before .before .before .pre .1 .0) (c .before .before .before .before .before .pre .1 .1) _ _ (c .before .loop .inv .2)
+
+returns : tie.Need-returns Inv-loop μ-loop
+returns c =
+    let v = c .before .loop .inv in
+    writing-ends _ _ _ _ (c .before .before .before .before .before .pre .1 .0) (c .before .before .before .before .before .pre .1 .1) _ _ (v .2) (spent (c .before .before .before .before .before .args .sign .0) _ _ _ _ _ _ (v .0) (v .1) (omega arith))
+
+pub put-terms-spec : {M : Type 1} → statement M
+put-terms-spec =
+    tie.close
+    (tie.spec
+    Inv-loop
+    μ-loop
+    loop-holds
+    add-loop
+    add-loop-2
+    next-requires
+    size-requires
+    put-term-requires
+    add-k
+    loop-less
+    loop-again
+    loop-less-2
+    loop-again-2
+    same-length
+    returns)

@@ -1,0 +1,5 @@
+pub mod Normal
+pub mod Results
+pub mod Sums
+pub mod Merging
+pub mod Tallies

@@ -1,0 +1,38 @@
+-- How the code goes through two records in step: for inner functions only.
+use mathlib.Core.Path.{_≡_}
+use Prim.Native.Nat.{ℕ, _+_, _*_, _^_, _≤_, _<_}
+use mathlib.Core.Bool.{Bool, cond}
+use mathlib.Core.List.{List, [], _∷_, map}
+use lib.ListN.{length, drop}
+use Rattle.modes.specs.declared.Term.{Term}
+use Rattle.record.specs.Terms.{before, weight}
+use Rattle.record.specs.Layout.{termsIn}
+use Rattle.lincomb.specs.Normal.{join}
+use Rattle.lincomb.specs.Sums.{turn}
+use Rattle.lincomb.specs.declared.Step.{Step}
+
+-- two ascending lists in one, like terms joined
+unfoldable pub merge : List Term → List Term → List Term
+merge [] us = us
+merge (t ∷ ts) [] = t ∷ ts
+merge (t ∷ ts) (u ∷ us) =
+    let first = merge ts (u ∷ us) in
+    let second = merge (t ∷ ts) us in
+    let both = merge ts us in
+    cond (before t u) (t ∷ first) (cond (before u t) (u ∷ second) (join t u ∷ both))
+
+-- n terms can be read from l, and their weight is not above the ceiling
+pub record Sound (l : List ℕ) (n : ℕ) : Type 0 where
+  pub size : 32 + 24 * n ≤ length l
+  pub light : weight (termsIn l n) ≤ 2 ^ 60
+
+-- what is left of the merged terms once i terms of the first and j of the second are taken
+abbrev pub onward : Bool → List ℕ → ℕ → List ℕ → ℕ → ℕ → ℕ → List Term
+onward minus a na b nb i j = merge (drop i (termsIn a na)) (map (turn minus) (drop j (termsIn b nb)))
+
+-- one step: the next term of these, and where each record goes on
+pub record Pulled (minus : Bool) (a : List ℕ) (na i : ℕ) (b : List ℕ) (nb j : ℕ) (s : Step) : Type 0 where
+  pub front : onward minus a na b nb i j ≡ s .term ∷ onward minus a na b nb (s .left) (s .right)
+  pub left-in : s .left ≤ na
+  pub right-in : s .right ≤ nb
+  pub on : i + j < s .left + s .right

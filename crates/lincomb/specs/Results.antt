@@ -1,0 +1,50 @@
+-- Calls of two records that write a record: what refuses them, and their whole output.
+use Prim.Native.Nat.{ℕ, _+_, _*_, _^_}
+use mathlib.Core.Bool.{cond}
+use mathlib.Core.List.{List}
+use lib.Dec.{eqb, leb}
+use lib.ListN.{length}
+use Rattle.modes.specs.declared.Term.{Term}
+use Rattle.modes.specs.declared.Refusal.{Refusal}
+use Rattle.modes.specs.Answers.{refusal, none}
+use Rattle.lent.specs.Outputs.{Output, refusedOutput, filledOutput}
+use Rattle.record.specs.Terms.{weight}
+use Rattle.record.specs.Layout.{encode, modesOf, countOf, termsOf}
+use Rattle.record.specs.Refusals.{orElse, refusalOf}
+use Rattle.lincomb.specs.declared.Opened.{Opened}
+
+-- the first record fully, the second likewise, then 6
+unfoldable pub pairRefusal : List ℕ → List ℕ → Refusal
+pairRefusal a b = orElse (refusalOf 1 a) (orElse (refusalOf 2 b) (cond (eqb (modesOf a) (modesOf b)) none (refusal 6 0 0)))
+
+-- a result of n terms and weight w, for an output of room bytes: 10, 9, 11
+unfoldable pub resultRefusal : ℕ → ℕ → ℕ → Refusal
+resultRefusal room n w =
+    orElse (cond (leb n 2048) none (refusal 10 0 0))
+    (orElse (cond (leb w (2 ^ 60)) none (refusal 9 0 0)) (cond (leb (32 + 24 * n) room) none (refusal 11 0 0)))
+
+-- the record of the terms ts on m modes, or the refusal r
+unfoldable pub recordOutput : ℕ → ℕ → Refusal → ℕ → List Term → Output
+recordOutput room branches r m ts = cond (eqb (r .number) 0) (filledOutput room branches (encode m ts)) (refusedOutput room r)
+
+-- a call whose result is ts, where earlier is what refuses it before the result is looked at
+abbrev pub resultOf : ℕ → ℕ → Refusal → ℕ → List Term → Output
+resultOf room branches earlier m ts = recordOutput room branches (orElse earlier (resultRefusal room (length ts) (weight ts))) m ts
+
+-- what is known of two records once they are checked: all 0 after a refusal
+abbrev pub shut : Refusal → Opened
+shut r = record { refusal = r; modes = 0; left = 0; right = 0; «left_weight» = 0; «right_weight» = 0 }
+
+abbrev pub standing : List ℕ → List ℕ → Opened
+standing a b =
+    record {
+      refusal = none;
+      modes = modesOf a;
+      left = countOf a;
+      right = countOf b;
+      «left_weight» = weight (termsOf a);
+      «right_weight» = weight (termsOf b);
+    }
+
+unfoldable pub openedOf : List ℕ → List ℕ → Opened
+openedOf a b = cond (eqb ((pairRefusal a b) .number) 0) (standing a b) (shut (pairRefusal a b))

@@ -1,0 +1,293 @@
+// The sum and the difference of two records.
+use modes::Refusal;
+use modes::Sign;
+use modes::Term;
+use modes::Written;
+ghost use mathlib.Core.Path.{_≡_};
+ghost use mathlib.Core.Bool.{cond};
+ghost use Prim.Native.Nat.{_+_, _*_, _≤_, _<_, _^_};
+ghost use lib.Dec.{eqb};
+ghost use lib.IntN.{natAbs};
+ghost use lib.ListN.{length};
+ghost use Rattle.lent.specs.Bytes.{put};
+ghost use Rattle.lent.specs.Outputs.{Gives, refusedOutput};
+ghost use Rattle.record.specs.Layout.{columns};
+ghost use Rattle.lincomb.specs.Normal.{join, dropZeros};
+ghost use Rattle.lincomb.specs.Results.{shut, openedOf, resultRefusal};
+ghost use Rattle.lincomb.specs.Sums.{turn, combined, added, subtracted};
+ghost use Rattle.lincomb.specs.Merging.{Sound, onward, Pulled};
+ghost use Rattle.lincomb.specs.Tallies.{Tallied};
+
+// Two records once both are checked: the refusal, or none with their modes, their numbers of terms and their weights.
+pub struct Opened {
+    pub refusal: Refusal,
+    pub modes: u64,
+    pub left: usize,
+    pub right: usize,
+    pub left_weight: u64,
+    pub right_weight: u64,
+}
+
+impl Opened {
+    fn refused(refusal: Refusal) -> Opened
+        ensures { λ r. ⌜ r ≡ shut refusal ⌝ }
+    {
+        Opened {
+            refusal,
+            modes: 0,
+            left: 0,
+            right: 0,
+            left_weight: 0,
+            right_weight: 0,
+        }
+    }
+}
+
+// A term, and how many terms of each record are taken with it.
+pub struct Step {
+    pub term: Term,
+    pub left: usize,
+    pub right: usize,
+}
+
+// How many terms, and their weight.
+pub struct Tally {
+    pub terms: usize,
+    pub weight: u64,
+}
+
+// Both records' checks, and 6.
+pub fn open_pair(a: &[u8], b: &[u8]) -> Opened
+    ensures { λ r. ⌜ r ≡ openedOf (now (a .entry)) (now (b .entry)) ⌝ }
+{
+    let p = record::check(a, 1);
+    if p.refusal.number != 0 {
+        let refusal = p.refusal;
+        return Opened::refused(refusal);
+    }
+    let q = record::check(b, 2);
+    if q.refusal.number != 0 {
+        let refusal = q.refusal;
+        return Opened::refused(refusal);
+    }
+    if p.modes != q.modes {
+        return Opened::refused(Refusal {
+            number: 6,
+            operand: 0,
+            place: 0,
+        });
+    }
+    Opened {
+        refusal: Refusal::NONE,
+        modes: p.modes,
+        left: p.terms,
+        right: q.terms,
+        left_weight: p.weight,
+        right_weight: q.weight,
+    }
+}
+
+// Numbers 10, 9 and 11 of a result of n terms and weight w.
+pub fn verdict(room: usize, n: usize, w: u64) -> Refusal
+    ensures { λ r. ⌜ r ≡ resultRefusal room n w ⌝ }
+{
+    if record::MOST_TERMS < n {
+        return Refusal {
+            number: 10,
+            operand: 0,
+            place: 0,
+        };
+    }
+    if record::HEAVIEST < w {
+        return Refusal {
+            number: 9,
+            operand: 0,
+            place: 0,
+        };
+    }
+    if room < 32 + 24 * n {
+        return Refusal {
+            number: 11,
+            operand: 0,
+            place: 0,
+        };
+    }
+    Refusal::NONE
+}
+
+// The one way to refuse: the whole output is wiped.
+pub fn refuse(out: &mut [u8], refusal: Refusal) -> Written
+    ensures { λ r. ⌜ Gives (refusedOutput (length (now (out .entry))) refusal) r (now (out .exit)) ⌝ }
+{
+    lent::wipe(out);
+    Written::refused(refusal)
+}
+
+// Two like terms in one.
+pub fn joined(t: Term, u: Term) -> Term
+    requires { ⌜ natAbs (t .coeff) + natAbs (u .coeff) < 2 ^ 63 ⌝ }
+    ensures { λ r. ⌜ r ≡ join t u ⌝ }
+{
+    let coeff = lent::sum(t.coeff, u.coeff);
+    Term {
+        cre: u.cre,
+        ann: u.ann,
+        coeff,
+    }
+}
+
+// The term, or its negative where the sign is minus.
+pub fn turned(sign: Sign, t: Term) -> Term
+    requires { ⌜ natAbs (t .coeff) < 2 ^ 63 ⌝ }
+    ensures { λ r. ⌜ r ≡ turn (sign .0) t ⌝ }
+{
+    if sign.0 {
+        let coeff = lent::negated(t.coeff);
+        return Term {
+            cre: t.cre,
+            ann: t.ann,
+            coeff,
+        };
+    }
+    t
+}
+
+// The next term of two records, the second with its sign.
+fn next(sign: Sign, a: &[u8], na: usize, i: usize, b: &[u8], nb: usize, j: usize) -> Step
+    requires { ⌜ Sound (now a) na × Sound (now b) nb ⌝ }
+    requires { ⌜ (i ≤ na) × (j ≤ nb) × (i + j < na + nb) ⌝ }
+    ensures { λ r. ⌜ Pulled (sign .0) (now (a .entry)) na i (now (b .entry)) nb j r ⌝ }
+{
+    if nb <= j {
+        let t = record::read_term(a, na, i);
+        return Step {
+            term: t,
+            left: i + 1,
+            right: j,
+        };
+    }
+    if na <= i {
+        let u = turned(sign, record::read_term(b, nb, j));
+        return Step {
+            term: u,
+            left: i,
+            right: j + 1,
+        };
+    }
+    let t = record::read_term(a, na, i);
+    let u = turned(sign, record::read_term(b, nb, j));
+    if record::is_before(t, u) {
+        return Step {
+            term: t,
+            left: i + 1,
+            right: j,
+        };
+    }
+    if record::is_before(u, t) {
+        return Step {
+            term: u,
+            left: i,
+            right: j + 1,
+        };
+    }
+    let both = joined(t, u);
+    Step {
+        term: both,
+        left: i + 1,
+        right: j + 1,
+    }
+}
+
+// 0 for a coefficient of zero, which is dropped, and 1 for any other.
+fn kept(size: u64) -> usize
+    ensures { λ r. ⌜ (r ≡ cond (eqb size 0) 0 1) × (r ≤ 1) ⌝ }
+{
+    if size == 0 { 0 } else { 1 }
+}
+
+// The result's terms counted and weighed, with nothing written.
+fn count_terms(sign: Sign, a: &[u8], na: usize, b: &[u8], nb: usize) -> Tally
+    requires { ⌜ Sound (now a) na × Sound (now b) nb ⌝ }
+    ensures { λ r. ⌜ Tallied (dropZeros (onward (sign .0) (now (a .entry)) na (now (b .entry)) nb 0 0)) r ⌝ }
+{
+    let mut i = 0;
+    let mut j = 0;
+    let mut n = 0;
+    let mut w = 0;
+    while i + j < na + nb {
+        let s = next(sign, a, na, i, b, nb, j);
+        let t = s.term;
+        let k = record::size(t);
+        n += kept(k);
+        w = record::heavier(w, k);
+        i = s.left;
+        j = s.right;
+    }
+    Tally {
+        terms: n,
+        weight: w,
+    }
+}
+
+// The result's terms, of which there are n, to their columns.
+fn put_terms(sign: Sign, a: &[u8], na: usize, b: &[u8], nb: usize, out: &mut [u8], n: usize)
+    requires { ⌜ Sound (now a) na × Sound (now b) nb ⌝ }
+    requires { ⌜ (n ≡ length (dropZeros (onward (sign .0) (now a) na (now b) nb 0 0))) × (32 + 24 * n ≤ length (now out)) ⌝ }
+    ensures { λ _. ⌜ now (out .exit) ≡ put (now (out .entry)) 32 (columns (dropZeros (onward (sign .0) (now (a .entry)) na (now (b .entry)) nb 0 0))) ⌝ }
+{
+    let mut i = 0;
+    let mut j = 0;
+    let mut k = 0;
+    while i + j < na + nb {
+        let s = next(sign, a, na, i, b, nb, j);
+        let t = s.term;
+        if record::size(t) != 0 {
+            record::put_term(out, n, k, t);
+            k += 1;
+        }
+        i = s.left;
+        j = s.right;
+    }
+}
+
+// The first record with the second, each of whose terms has the sign.
+fn combine(sign: Sign, a: &[u8], b: &[u8], out: &mut [u8]) -> Written
+    ensures { λ r. ⌜ Gives (combined (sign .0) (length (now (out .entry))) (now (a .entry)) (now (b .entry))) r (now (out .exit)) ⌝ }
+{
+    let p = open_pair(a, b);
+    if p.refusal.number != 0 {
+        let refusal = p.refusal;
+        return refuse(out, refusal);
+    }
+    let na = p.left;
+    let nb = p.right;
+    let t = count_terms(sign, a, na, b, nb);
+    let n = t.terms;
+    let late = verdict(out.len(), n, t.weight);
+    if late.number != 0 {
+        return refuse(out, late);
+    }
+    record::put_header(out, p.modes, n);
+    put_terms(sign, a, na, b, nb, out, n);
+    let end = 32 + 24 * n;
+    lent::wipe_from(out, end);
+    Written {
+        refusal: Refusal::NONE,
+        len: end,
+        branches: 0,
+    }
+}
+
+// The record of the sum.
+pub fn add(a: &[u8], b: &[u8], out: &mut [u8]) -> Written
+    ensures { λ r. ⌜ Gives (added (length (now (out .entry))) (now (a .entry)) (now (b .entry))) r (now (out .exit)) ⌝ }
+{
+    combine(Sign::PLUS, a, b, out)
+}
+
+// The record of the difference.
+pub fn sub(a: &[u8], b: &[u8], out: &mut [u8]) -> Written
+    ensures { λ r. ⌜ Gives (subtracted (length (now (out .entry))) (now (a .entry)) (now (b .entry))) r (now (out .exit)) ⌝ }
+{
+    combine(Sign::MINUS, a, b, out)
+}

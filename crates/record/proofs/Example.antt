@@ -1,0 +1,34 @@
+-- The record of the specification's example, byte by byte: the definitions encode it so, read it so, and accept it.
+use mathlib.Core.Path.{_≡_, refl}
+use mathlib.Core.List.{List, [], _∷_}
+use Prim.Native.Nat.{ℕ}
+use lib.IntN.{pos, negsuc}
+use Rattle.modes.specs.declared.Term.{Term}
+use Rattle.modes.specs.Answers.{none}
+use Rattle.lent.specs.Bytes.{bytes, num, numAt}
+use Rattle.record.specs.Numbers.{stored, numbers, sameNumbers}
+use Rattle.record.specs.Terms.{before, weight}
+use Rattle.record.specs.Layout.{header, column, columns, encode, together, termsIn, termsOf, laidOut}
+use Rattle.record.specs.Refusals.{orElse, inside, termRefusal, termsRefusal, refusalOf}
+
+unfoldable pub example : List ℕ
+example =
+    1 ∷ 0 ∷ 0 ∷ 0 ∷ 2 ∷ 0 ∷ 0 ∷ 0 ∷ 2 ∷ 0 ∷ 0 ∷ 0 ∷ 0x20 ∷ 0 ∷ 0 ∷ 0 ∷ 0x30 ∷ 0 ∷ 0 ∷ 0 ∷ 0x40 ∷ 0 ∷ 0 ∷ 0 ∷ 0x50 ∷ 0 ∷ 0 ∷ 0 ∷ 0 ∷ 0 ∷ 0 ∷ 0
+    ∷ 1 ∷ 0 ∷ 0 ∷ 0 ∷ 0 ∷ 0 ∷ 0 ∷ 0 ∷ 2 ∷ 0 ∷ 0 ∷ 0 ∷ 0 ∷ 0 ∷ 0 ∷ 0 ∷ 1 ∷ 0 ∷ 0 ∷ 0 ∷ 0 ∷ 0 ∷ 0 ∷ 0 ∷ 2 ∷ 0 ∷ 0 ∷ 0 ∷ 0 ∷ 0 ∷ 0 ∷ 0
+    ∷ 1 ∷ 0 ∷ 0 ∷ 0 ∷ 0 ∷ 0 ∷ 0 ∷ 0 ∷ 0xff ∷ 0xff ∷ 0xff ∷ 0xff ∷ 0xff ∷ 0xff ∷ 0xff ∷ 0xff ∷ []
+
+-- {0|0} with 1 and {1|1} with -1
+abbrev pub terms : List Term
+terms = record { cre = 1; ann = 1; coeff = pos 1 } ∷ record { cre = 2; ann = 2; coeff = negsuc 0 } ∷ []
+
+pub example-encoded : encode 2 terms ≡ example
+unfolding example bytes stored header column columns
+example-encoded = refl
+
+pub example-read : termsOf example ≡ terms
+unfolding example num numAt numbers together termsIn
+example-read = refl
+
+pub example-accepted : refusalOf 1 example ≡ none
+unfolding example num numAt numbers sameNumbers together termsIn before weight laidOut orElse inside termRefusal termsRefusal refusalOf
+example-accepted = refl
