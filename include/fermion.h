@@ -33,6 +33,11 @@ void fermion_mul_cmpnts(uint64_t l_cre, uint64_t l_ann, uint64_t r_cre, uint64_t
 /* The record's own check, 1 to 5. [5] modes m, [6] terms n, [7] weight. */
 void fermion_check(const uint8_t *a, size_t a_len, uint64_t answer[8]);
 
+void fermion_add(const uint8_t *a, size_t a_len, const uint8_t *b, size_t b_len,
+                 uint8_t *out, size_t out_len, uint64_t answer[8]);
+void fermion_sub(const uint8_t *a, size_t a_len, const uint8_t *b, size_t b_len,
+                 uint8_t *out, size_t out_len, uint64_t answer[8]);
+
 /* [5] 1 or 0 */
 void fermion_conserves_particle_number(const uint8_t *a, size_t a_len, uint64_t answer[8]);
 /* [5] the largest rank */

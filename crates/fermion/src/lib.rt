@@ -4,6 +4,7 @@ ghost use mathlib.Core.Bool.{cond};
 ghost use lib.ListN.{length};
 ghost use Rattle.products.specs.Apply.{applied};
 ghost use Rattle.products.specs.Product.{multiplied};
+ghost use Rattle.lincomb.specs.Sums.{added, subtracted};
 ghost use Rattle.record.specs.Refusals.{checkedOf};
 ghost use Rattle.record.specs.Blocks.{blockOf};
 ghost use Rattle.record.specs.Figures.{conservesOf, maxNBodyOf, activeModesOf};
@@ -93,6 +94,22 @@ pub extern "C" fn fermion_check(a: &[u8], answer: &mut [u64; 8])
 {
     let c = record::check(a, 1);
     *answer = answer_of(c.refusal, c.modes, c.terms as u64, c.weight);
+}
+
+#[no_mangle]
+pub extern "C" fn fermion_add(a: &[u8], b: &[u8], out: &mut [u8], answer: &mut [u64; 8])
+    ensures { λ _. ⌜ Fills (added (length (now (out .entry))) (now (a .entry)) (now (b .entry))) (now (out .exit)) (now (answer .exit)) ⌝ }
+{
+    let w = lincomb::add(a, b, out);
+    *answer = written(w);
+}
+
+#[no_mangle]
+pub extern "C" fn fermion_sub(a: &[u8], b: &[u8], out: &mut [u8], answer: &mut [u64; 8])
+    ensures { λ _. ⌜ Fills (subtracted (length (now (out .entry))) (now (a .entry)) (now (b .entry))) (now (out .exit)) (now (answer .exit)) ⌝ }
+{
+    let w = lincomb::sub(a, b, out);
+    *answer = written(w);
 }
 
 #[no_mangle]

@@ -10,7 +10,7 @@ ghost use lib.Dec.{eqb};
 ghost use lib.IntN.{natAbs};
 ghost use lib.ListN.{length};
 ghost use Rattle.lent.specs.Bytes.{put};
-ghost use Rattle.lent.specs.Outputs.{Gives, refusedOutput};
+ghost use Rattle.lent.specs.Outputs.{Gives};
 ghost use Rattle.record.specs.Layout.{columns};
 ghost use Rattle.lincomb.specs.Normal.{join, dropZeros};
 ghost use Rattle.lincomb.specs.Results.{shut, openedOf, resultRefusal};
@@ -113,14 +113,6 @@ pub fn verdict(room: usize, n: usize, w: u64) -> Refusal
         };
     }
     Refusal::NONE
-}
-
-// The one way to refuse: the whole output is wiped.
-pub fn refuse(out: &mut [u8], refusal: Refusal) -> Written
-    ensures { λ r. ⌜ Gives (refusedOutput (length (now (out .entry))) refusal) r (now (out .exit)) ⌝ }
-{
-    lent::wipe(out);
-    Written::refused(refusal)
 }
 
 // Two like terms in one.
@@ -257,7 +249,7 @@ fn combine(sign: Sign, a: &[u8], b: &[u8], out: &mut [u8]) -> Written
     let p = open_pair(a, b);
     if p.refusal.number != 0 {
         let refusal = p.refusal;
-        return refuse(out, refusal);
+        return lent::refuse(out, refusal);
     }
     let na = p.left;
     let nb = p.right;
@@ -265,7 +257,7 @@ fn combine(sign: Sign, a: &[u8], b: &[u8], out: &mut [u8]) -> Written
     let n = t.terms;
     let late = verdict(out.len(), n, t.weight);
     if late.number != 0 {
-        return refuse(out, late);
+        return lent::refuse(out, late);
     }
     record::put_header(out, p.modes, n);
     put_terms(sign, a, na, b, nb, out, n);

@@ -1,6 +1,5 @@
--- `fermion::fermion_mul_cmpnts` meets its contract: the numbers of the library function's answer.
-use mathlib.Core.Path.{_≡_, ap, _∙_}
-use Rattle.fermion.specs.Face.{writtenAnswer}
+-- `fermion::fermion_mul_cmpnts` meets its contract.
+use Rattle.fermion.proofs.Filling.{fills}
 use borrow.Author.Needs.{needs}
 use Rattle.fermion.proofs.fermion_mul_cmpnts.Statement.{statement}
 use Rattle.fermion.proofs.fermion_mul_cmpnts.Tie as tie
@@ -15,8 +14,7 @@ same-length : tie.Need-same-length
 same-length c = search needs
 
 returns : tie.Need-returns
-returns c =
-    let m = c .before .before .before .mul-cmpnts .ensures in record { bytes = m .bytes; numbers = c .written .ensures ∙ ap writtenAnswer (m .answer) }
+returns c = fills (c .before .before .before .mul-cmpnts .ensures) (c .written .ensures)
 
 pub fermion-mul-cmpnts-spec : {M : Type 1} → statement M
 fermion-mul-cmpnts-spec =
