@@ -18,21 +18,25 @@ def load():
 
 
 class Lent:
-    """Bytes lent for writing: garbage at first, with guard bytes on both sides."""
+    """Bytes lent for writing: garbage at first, or the bytes given, with guard bytes on both sides. A shift moves the start
+    off its alignment."""
 
-    def __init__(self, rng, length):
+    def __init__(self, rng, length, shift=0, filled=None):
         self.length = length
-        self.whole = ctypes.create_string_buffer(rng.randbytes(length + 2 * GUARD), length + 2 * GUARD)
-        self.guards = self.whole.raw[:GUARD], self.whole.raw[GUARD + length:]
+        self.start, self.end = GUARD + shift, GUARD + shift + length
+        self.whole = ctypes.create_string_buffer(rng.randbytes(self.end + GUARD), self.end + GUARD)
+        if filled is not None:
+            self.whole[self.start:self.end] = filled
+        self.guards = self.whole.raw[:self.start], self.whole.raw[self.end:]
 
     def pointer(self):
-        return ctypes.byref(self.whole, GUARD)
+        return ctypes.byref(self.whole, self.start)
 
     def bytes(self):
-        return self.whole.raw[GUARD:GUARD + self.length]
+        return self.whole.raw[self.start:self.end]
 
     def guards_kept(self):
-        return (self.whole.raw[:GUARD], self.whole.raw[GUARD + self.length:]) == self.guards
+        return (self.whole.raw[:self.start], self.whole.raw[self.end:]) == self.guards
 
 
 class Answer(Lent):

@@ -1,0 +1,99 @@
+"""Calls of the library beside records.py: the same arguments, and the whole answer compared.
+
+An argument is what the function of that name in records.py takes: a word, a record's bytes, a list of words, a
+list of binary64s by their bits, or the length of a buffer that is lent for writing.
+"""
+import ctypes
+import random
+
+import face
+import records
+
+# u a word; r bytes to read; w words to read; o bytes lent for writing. Then what is lent without a length.
+TAKES = {
+    "mul_cmpnts": "uuuuo", "check": "r", "add": "rro", "sub": "rro", "mul": "rroo", "commutator": "rroo",
+    "anticommutator": "rroo", "adjoint": "ro", "is_hermitian": "r", "conserves_particle_number": "r",
+    "max_n_body": "r", "active_modes": "r", "block": "ru", "element": "ruu", "mat_ortho_projected": "rw",
+    "compare": "rr", "mat_elem_real": "uwwwuu", "mat_elem_complex": "uwwwwuu",
+}
+FIXED = {"mat_ortho_projected": 512, "mat_elem_real": 16, "mat_elem_complex": 16}
+PASSED = {"u": [ctypes.c_uint64], "r": [ctypes.c_void_p, ctypes.c_size_t]}
+PASSED["w"] = PASSED["o"] = PASSED["r"]
+MISSING = "no such function"
+
+
+def garbage(rng, length):
+    """Random bytes; in one of four some zeros first, in one of eight 255s only: what an earlier job might leave."""
+    kind = rng.randrange(8)
+    zeros = min(length, rng.choice((1, 8, 24, 32))) if kind < 2 else 0
+    return bytes(zeros) + (b"\xff" * (length - zeros) if kind == 7 else rng.randbytes(length - zeros))
+
+
+def shown(args):
+    """Arguments for a message, long ones cut."""
+    texts = [arg.hex() if isinstance(arg, bytes) else str(arg) for arg in args]
+    return ", ".join(text if len(text) <= 400 else f"{text[:400]}.. ({len(text)} characters)" for text in texts)
+
+
+class Calls:
+    """The library's functions, called with garbage in everything lent and guards around it."""
+
+    def __init__(self, lib, seed, tally):
+        self.lib, self.rng, self.tally = lib, random.Random(seed), tally
+        self.refusals = {}  # (call, number): how often
+
+    def buffer(self, kind, arg, known):
+        """A guarded buffer for one argument. An argument given twice is the same memory."""
+        if kind == "o":
+            return face.Lent(self.rng, arg, self.rng.randrange(8), garbage(self.rng, arg))
+        if id(arg) not in known:
+            data = arg if kind == "r" else b"".join(map(records.u64, arg))
+            known[id(arg)] = face.Lent(self.rng, len(data), self.rng.randrange(8) if kind == "r" else 0, data)
+        return known[id(arg)]
+
+    def call(self, name, *args):
+        """The answer, and whether guards and everything only read were left as they were."""
+        function = getattr(self.lib, f"fermion_{name}", None)
+        if function is None:
+            return MISSING, False
+        kinds, known, passed, read, lent = TAKES[name], {}, [], [], []
+        for kind, arg in zip(kinds, args, strict=True):
+            if kind == "u":
+                passed.append(arg)
+                continue
+            buffer = self.buffer(kind, arg, known)
+            passed += [buffer.pointer(), arg if kind == "o" else len(arg)]
+            (lent if kind == "o" else read).append(buffer)
+        if name in FIXED:
+            lent.append(face.Lent(self.rng, FIXED[name]))
+            passed.append(lent[-1].pointer())
+        answer = face.Answer(self.rng)
+        function.argtypes = [t for kind in kinds for t in PASSED[kind]] + [ctypes.c_void_p] * (1 + (name in FIXED))
+        function.restype = None
+        before = [buffer.bytes() for buffer in read]
+        function(*passed, answer.pointer())
+        kept = before == [buffer.bytes() for buffer in read]
+        kept = kept and all(buffer.guards_kept() for buffer in [*read, *lent, answer])
+        return records.Answer(answer.numbers(), tuple(buffer.bytes() for buffer in lent)), kept
+
+    def judge(self, test, name, *args):
+        """Compares one call with records.py, under the name of a test. Gives the expected answer."""
+        got, kept = self.call(name, *args)
+        expected = getattr(records, name)(*args)
+        self.met(name, expected.numbers[0])
+        about = f"fermion_{name}({shown(args)})"
+        self.tally.same(test, got, expected, about)
+        self.tally.same(f"{name}: guards, and what is only read, left as they were", kept, True, about)
+        return expected
+
+    def met(self, name, number):
+        self.refusals[name, number] = self.refusals.get((name, number), 0) + 1
+
+    def print_refusals(self):
+        """How often each refusal was met, 0 standing for an answer."""
+        numbers = sorted({number for _, number in self.refusals})
+        print("calls that were answered (0), and that were refused, by number:")
+        print(f"{'':28}" + "".join(f"{number:8}" for number in numbers))
+        for name in dict.fromkeys(name for name, _ in self.refusals):
+            row = (self.refusals.get((name, number), 0) for number in numbers)
+            print(f"{name:28}" + "".join(f"{n or '-':>8}" for n in row))
