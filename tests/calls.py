@@ -29,6 +29,17 @@ def garbage(rng, length):
     return bytes(zeros) + (b"\xff" * (length - zeros) if kind == 7 else rng.randbytes(length - zeros))
 
 
+def first_other(got, expected):
+    """Where two answers part, for a message."""
+    if got == MISSING or got == expected:
+        return ""
+    for i, (a, b) in enumerate(zip(got.lent, expected.lent)):
+        if a != b:
+            at = next(j for j in range(len(b)) if a[j] != b[j])
+            return f", buffer {i} at byte {at}: {a[at:at + 24].hex()}, not {b[at:at + 24].hex()}"
+    return ""
+
+
 def shown(args):
     """Arguments for a message, long ones cut."""
     texts = [arg.hex() if isinstance(arg, bytes) else str(arg) for arg in args]
@@ -39,16 +50,17 @@ class Calls:
     """The library's functions, called with garbage in everything lent and guards around it."""
 
     def __init__(self, lib, seed, tally):
-        self.lib, self.rng, self.tally = lib, random.Random(seed), tally
+        self.lib, self.tally = lib, tally
+        self.rng, self.dirt = random.Random(seed), random.Random(seed + 1)  # for arguments; for garbage
         self.refusals = {}  # (call, number): how often
 
     def buffer(self, kind, arg, known):
         """A guarded buffer for one argument. An argument given twice is the same memory."""
         if kind == "o":
-            return face.Lent(self.rng, arg, self.rng.randrange(8), garbage(self.rng, arg))
+            return face.Lent(self.dirt, arg, self.dirt.randrange(8), garbage(self.dirt, arg))
         if id(arg) not in known:
             data = arg if kind == "r" else b"".join(map(records.u64, arg))
-            known[id(arg)] = face.Lent(self.rng, len(data), self.rng.randrange(8) if kind == "r" else 0, data)
+            known[id(arg)] = face.Lent(self.dirt, len(data), self.dirt.randrange(8) if kind == "r" else 0, data)
         return known[id(arg)]
 
     def call(self, name, *args):
@@ -65,9 +77,9 @@ class Calls:
             passed += [buffer.pointer(), arg if kind == "o" else len(arg)]
             (lent if kind == "o" else read).append(buffer)
         if name in FIXED:
-            lent.append(face.Lent(self.rng, FIXED[name]))
+            lent.append(face.Lent(self.dirt, FIXED[name]))
             passed.append(lent[-1].pointer())
-        answer = face.Answer(self.rng)
+        answer = face.Answer(self.dirt)
         function.argtypes = [t for kind in kinds for t in PASSED[kind]] + [ctypes.c_void_p] * (1 + (name in FIXED))
         function.restype = None
         before = [buffer.bytes() for buffer in read]
@@ -81,7 +93,8 @@ class Calls:
         got, kept = self.call(name, *args)
         expected = getattr(records, name)(*args)
         self.met(name, expected.numbers[0])
-        about = f"fermion_{name}({shown(args)})"
+        about = f"fermion_{name}({shown(args)})" if got != expected or not kept else ""
+        about += first_other(got, expected)
         self.tally.same(test, got, expected, about)
         self.tally.same(f"{name}: guards, and what is only read, left as they were", kept, True, about)
         return expected

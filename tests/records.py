@@ -19,7 +19,16 @@ import rule
 MAX_MODES, MAX_TERMS, MAX_WEIGHT, MAX_BASIS = 64, 2048, 2**60, 8
 HEADER, ROW = 32, 24
 
-Answer = collections.namedtuple("Answer", "numbers lent")
+
+class Answer(collections.namedtuple("Answer", "numbers lent")):
+    def __repr__(self):
+        return f"{self.numbers} and " + ("; ".join(map(cut, self.lent)) or "nothing lent")
+
+
+def cut(data):
+    """Bytes for a message: hexadecimal, without the zeros at the end, and not more than 96 of them."""
+    core = data.rstrip(b"\0")
+    return core[:96].hex() + (".." if len(core) > 96 else "") + f" ({len(data)} bytes)"
 
 
 # The record
