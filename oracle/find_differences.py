@@ -11,6 +11,7 @@ import pathlib
 import subprocess
 import time
 
+import operator_differences
 from ask import all_pairs, ask, hexes, joined, kinds, products, rule, triples
 from draw import Draw
 
@@ -222,6 +223,7 @@ def main():
     show_two_body(options.unchanged)
     show_many_common(options.unchanged)
     show_all_common("release", options.unchanged)
+    operator_differences.show(options.unchanged, options.corrected)
     if options.debug:
         show_debug(options.unchanged, options.debug)
     if options.corrected:

@@ -1,15 +1,19 @@
 #!/usr/bin/env python3
 """Makes the stored answers by asking the built, unchanged Rust.
 
-    python3 oracle/make_answers.py oracle/build/unchanged/target/release/oracle
+    python3 oracle/make_answers.py oracle/build/unchanged/target/release/oracle \\
+        oracle/build/corrected/target/release/oracle
 
-writes crates/cases/stdin and tests/answers/mul_cmpnts.txt. The inputs are seeded, so that two runs
-write the same bytes. Every answer is compared with tests/rule.py on the way.
+writes crates/cases/stdin and tests/answers/: mul_cmpnts.txt, records.txt, products.txt, elements.txt. The
+inputs are seeded, so that two runs write the same bytes. Every answer is compared with tests/rule.py or
+tests/records.py on the way, and on operators the corrected copy is asked as well: it must agree with them.
+No answer of the corrected copy is stored.
 """
 import collections
 import pathlib
 import sys
 
+import operator_answers
 from ask import all_pairs, ask, hexes, joined, kinds, products, rule
 from draw import Draw
 
@@ -240,17 +244,22 @@ def write(name, text):
 
 
 def main():
-    if len(sys.argv) != 2:
+    if len(sys.argv) != 3:
         sys.exit(__doc__)
-    text, cases = make_cases(sys.argv[1])
+    unchanged, corrected = sys.argv[1:]
+    text, cases = make_cases(unchanged)
     write("crates/cases/stdin", text)
     for what, n in sorted(cases.items()):
         print(f"  {what}: {n}")
-    text, tally = make_products(sys.argv[1])
+    text, tally = make_products(unchanged)
     write("tests/answers/mul_cmpnts.txt", text)
     for heading in [*dict.fromkeys(h for h, _ in tally if h != "all together"), "all together"]:
         counts = sorted((what, n) for (other, what), n in tally.items() if other == heading)
         print(f"  {heading}: " + ", ".join(f"{what} {n}" for what, n in counts))
+    for name, text, tally in operator_answers.make(unchanged, corrected):
+        write(name, text)
+        for (function, mark), n in sorted(tally.items()):
+            print(f"  {function}: {mark}: {n}")
     if cases["apply DIFFERS"] or cases["count DIFFERS"]:
         sys.exit("make_answers.py: answers in crates/cases/stdin differ from the rule")
 

@@ -6,7 +6,7 @@ import random
 import face
 import records
 import rule
-from calls import Calls
+from calls import MISSING, Calls
 
 SEED = 20261116
 FULL = 2**64 - 1
@@ -28,7 +28,7 @@ CASES = [
 
 def rows_in(answer):
     """The rows (ann, cre, coefficient) of an answer's output."""
-    if answer == "no such function":
+    if answer == MISSING:
         return None
     words = [int.from_bytes(answer.lent[0][i:i + 8], "little") for i in range(0, answer.numbers[3], 8)]
     signed = [c - 2**64 if c >> 63 else c for c in words[2::3]]
