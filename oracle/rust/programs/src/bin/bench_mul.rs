@@ -9,46 +9,23 @@
 //! time of each counts. Going round over all lists keeps a slow moment of the machine from falling on
 //! one list alone. zixy makes its own lists of rows, and dropping them is part of its time. The library
 //! is lent 24 bytes for each row of the product, and no bytes where it is empty.
-use std::ffi::{c_char, c_int, c_void, CStr, CString};
+use programs::timing::{self, Symbol, Timing, ROUNDS};
 use std::hint::black_box;
-use std::time::{Duration, Instant};
 use zixy::container::traits::RefElements;
 use zixy::container::word_iters::WordIters;
 use zixy::fermion::mode::Modes;
 use zixy::fermion::operator::normal::cmpnt_list::CmpntList;
 use zixy::fermion::operator::normal::products::mul_cmpnts;
 
-const ROUNDS: usize = 101;
-const TURN: Duration = Duration::from_millis(2);
-
-extern "C" {
-    fn dlopen(file: *const c_char, flags: c_int) -> *mut c_void;
-    fn dlsym(library: *mut c_void, name: *const c_char) -> *mut c_void;
-    fn dlerror() -> *const c_char;
-}
-const RTLD_NOW: c_int = 2;
-
 type MulCmpnts = unsafe extern "C" fn(u64, u64, u64, u64, *mut u8, usize, *mut u64);
 
 fn fail(message: String) -> ! {
-    eprintln!("bench_mul: {message}");
-    std::process::exit(1)
+    timing::fail("bench_mul", message)
 }
 
 fn load(file: &str) -> MulCmpnts {
-    let path = CString::new(file).expect("a path without zero bytes");
-    // SAFETY: both strings end in a zero byte, and the symbol has the type that the header declares.
-    unsafe {
-        let library = dlopen(path.as_ptr(), RTLD_NOW);
-        let symbol = match library.is_null() {
-            true => library,
-            false => dlsym(library, c"fermion_mul_cmpnts".as_ptr()),
-        };
-        if symbol.is_null() {
-            fail(CStr::from_ptr(dlerror()).to_string_lossy().into_owned());
-        }
-        std::mem::transmute::<*mut c_void, MulCmpnts>(symbol)
-    }
+    // SAFETY: the symbol has the type that the header declares.
+    unsafe { std::mem::transmute::<Symbol, MulCmpnts>(timing::load("bench_mul", file, c"fermion_mul_cmpnts")) }
 }
 
 /// One product: the four words, and how many rows the specification gives it.
@@ -219,31 +196,6 @@ impl List {
             &each(zixy, *rows),
             &ours.2,
         ]);
-    }
-}
-
-/// The best time of one pass so far, and how many passes fill a turn.
-#[derive(Default)]
-struct Timing {
-    best: Option<Duration>,
-    passes: u32,
-}
-
-impl Timing {
-    fn turn(&mut self, mut pass: impl FnMut()) {
-        let passes = self.passes.max(1);
-        let start = Instant::now();
-        for _ in 0..passes {
-            pass();
-        }
-        let time = start.elapsed() / passes;
-        let best = self.best.map_or(time, |best| best.min(time));
-        self.best = Some(best);
-        self.passes = (TURN.as_nanos() / best.as_nanos().max(1)) as u32 + 1;
-    }
-
-    fn nanoseconds(&self) -> f64 {
-        self.best.unwrap_or_default().as_nanos() as f64
     }
 }
 

@@ -1,0 +1,2 @@
+//! What the timing programs share.
+pub mod timing;
