@@ -37,6 +37,7 @@ void fermion_add(const uint8_t *a, size_t a_len, const uint8_t *b, size_t b_len,
                  uint8_t *out, size_t out_len, uint64_t answer[8]);
 void fermion_sub(const uint8_t *a, size_t a_len, const uint8_t *b, size_t b_len,
                  uint8_t *out, size_t out_len, uint64_t answer[8]);
+void fermion_adjoint(const uint8_t *a, size_t a_len, uint8_t *out, size_t out_len, uint64_t answer[8]);
 
 /* [5] 1 or 0 */
 void fermion_conserves_particle_number(const uint8_t *a, size_t a_len, uint64_t answer[8]);

@@ -5,6 +5,7 @@ ghost use lib.ListN.{length};
 ghost use Rattle.products.specs.Apply.{applied};
 ghost use Rattle.products.specs.Product.{multiplied};
 ghost use Rattle.lincomb.specs.Sums.{added, subtracted};
+ghost use Rattle.adjoint.specs.Adjoint.{adjointed};
 ghost use Rattle.record.specs.Refusals.{checkedOf};
 ghost use Rattle.record.specs.Blocks.{blockOf};
 ghost use Rattle.record.specs.Figures.{conservesOf, maxNBodyOf, activeModesOf};
@@ -109,6 +110,14 @@ pub extern "C" fn fermion_sub(a: &[u8], b: &[u8], out: &mut [u8], answer: &mut [
     ensures { λ _. ⌜ Fills (subtracted (length (now (out .entry))) (now (a .entry)) (now (b .entry))) (now (out .exit)) (now (answer .exit)) ⌝ }
 {
     let w = lincomb::sub(a, b, out);
+    *answer = written(w);
+}
+
+#[no_mangle]
+pub extern "C" fn fermion_adjoint(a: &[u8], out: &mut [u8], answer: &mut [u64; 8])
+    ensures { λ _. ⌜ Fills (adjointed (length (now (out .entry))) (now (a .entry))) (now (out .exit)) (now (answer .exit)) ⌝ }
+{
+    let w = adjoint::adjoint(a, out);
     *answer = written(w);
 }
 

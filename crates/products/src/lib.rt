@@ -104,7 +104,7 @@ fn sign_of_bits(word: u64) -> Sign
 }
 
 // The coefficient, or its negation where the sign is minus.
-fn signed_coeff(sign: Sign, coeff: i64) -> i64
+pub fn signed_coeff(sign: Sign, coeff: i64) -> i64
     requires { ⌜ natAbs coeff < 2 ^ 63 ⌝ }
     ensures { λ r. ⌜ r ≡ signed (sign .0) coeff ⌝ }
 {

@@ -60,7 +60,7 @@ pub first-below-past : (a : ℕ) (ts : List Term) → countIf (upTo false a) ts 
 first-below-past a ts = count-more (upTo false a) (upTo true a) ts (λ t e. le-leb (t .ann) a (omega (arith, ltb-true (t .ann) a e)))
 
 -- what holds of a term holds of those before it
-abbrev Downward : (Term → Bool) → Type 0
+abbrev pub Downward : (Term → Bool) → Type 0
 Downward p = (t u : Term) → before t u ≡ true → p u ≡ true → p t ≡ true
 
 ann-below : (t u : Term) → before t u ≡ true → t .ann ≤ u .ann
@@ -117,13 +117,19 @@ pub halving-starts : (p : Term → Bool) (ts : List Term) (n : ℕ) → drop n t
 unfolding countIf
 halving-starts p ts n e = record { before = refl; after = rw e }
 
+module _ (p : Term → Bool) (down : Downward p) (ts : List Term) (s : Ascending ts) (low high i : ℕ) (t : Term) (at : At ts i t) (g : Halving p ts low high) where
+  pub halving-rises : p t ≡ true → Halving p ts (i + 1) high
+  halving-rises h = record { before = rw (add-one i) (all-before p down ts _ t i s at h); after = g .after }
+
+  pub halving-falls : p t ≡ false → Halving p ts low i
+  halving-falls h = record { before = g .before; after = none-after p down ts _ t i s at h }
+
 module _ (past : Bool) (a : ℕ) (ts : List Term) (s : Ascending ts) (low high i : ℕ) (t : Term) (at : At ts i t) (g : Halving (upTo past a) ts low high) where
   pub halving-up : upTo past a t ≡ true → Halving (upTo past a) ts (i + 1) high
-  halving-up h =
-      record { before = rw (add-one i) (all-before (upTo past a) (up-to-downward past a) ts _ t i s at h); after = g .after }
+  halving-up = halving-rises (upTo past a) (up-to-downward past a) ts s low high i t at g
 
   pub halving-down : upTo past a t ≡ false → Halving (upTo past a) ts low i
-  halving-down h = record { before = g .before; after = none-after (upTo past a) (up-to-downward past a) ts _ t i s at h }
+  halving-down = halving-falls (upTo past a) (up-to-downward past a) ts s low high i t at g
 
 pub halving-ends : (p : Term → Bool) (ts : List Term) (low high : ℕ) → high ≡ low → Halving p ts low high → low ≡ countIf p ts
 halving-ends p ts low high e g =

@@ -1,0 +1,5 @@
+pub mod Pairs
+pub mod Terms
+pub mod Writing
+pub mod Sorting
+pub mod Adjointed

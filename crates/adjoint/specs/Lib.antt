@@ -1,0 +1,2 @@
+pub mod Adjoint
+pub mod Hermitian

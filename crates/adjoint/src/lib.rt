@@ -1,0 +1,101 @@
+// The adjoint of a record, and the Hermitian test.
+use modes::Refusal;
+use modes::Sign;
+use modes::Term;
+use modes::Written;
+use record::Tested;
+use rows::Places;
+ghost use mathlib.Core.Path.{_≡_};
+ghost use mathlib.Core.List.{_++_, map};
+ghost use Prim.Native.Nat.{_+_, _*_, _-_, _≤_, _<_};
+ghost use lib.ListN.{length};
+ghost use Rattle.modes.specs.Words.{bit};
+ghost use Rattle.modes.specs.Counts.{count, pairs};
+ghost use Rattle.lent.specs.Bytes.{put, zeros};
+ghost use Rattle.lent.specs.Every.{Every};
+ghost use Rattle.lent.specs.Outputs.{Gives};
+ghost use Rattle.record.specs.Terms.{before, Ascending};
+ghost use Rattle.record.specs.Layout.{columns, encode, termsIn};
+ghost use Rattle.record.specs.Canonical.{Canonical};
+ghost use Rattle.record.specs.Blocks.{countIf};
+ghost use Rattle.adjoint.specs.Adjoint.{Negatable, adjointTerm, adjointTerms, adjointed};
+ghost use Rattle.adjoint.specs.Hermitian.{Among, Paired, Tells, hermitianOf};
+
+// The number of pairs of the word's modes.
+fn pairs_in(word: u64) -> u32
+    ensures { λ r. ⌜ (r ≡ pairs (count 64 (bit word))) × (r ≤ 2048) ⌝ }
+{
+    let n = u64::count_ones(word);
+    if n == 0 {
+        return 0;
+    }
+    n * (n - 1) / 2
+}
+
+// The words swapped, and the coefficient negated if the pairs are odd in number.
+fn adjoint_term(t: Term) -> Term
+    requires { ⌜ Negatable t ⌝ }
+    ensures { λ r. ⌜ r ≡ adjointTerm t ⌝ }
+{
+    let sign = Sign::from_exchanges(pairs_in(t.cre) + pairs_in(t.ann));
+    let coeff = products::signed_coeff(sign, t.coeff);
+    Term {
+        cre: t.ann,
+        ann: t.cre,
+        coeff,
+    }
+}
+
+// The adjoint terms to the output's columns, in the record's own order.
+fn put_adjoint_terms(a: &[u8], n: usize, out: &mut [u8])
+    requires { ⌜ (32 + 24 * n ≤ length (now a)) × (32 + 24 * n ≤ length (now out)) × Every Negatable (termsIn (now a) n) ⌝ }
+    ensures { λ _. ⌜ now (out .exit) ≡ put (now (out .entry)) 32 (columns (map adjointTerm (termsIn (now (a .entry)) n))) ⌝ }
+{
+    let mut i = 0;
+    while i < n {
+        let t = record::read_term(a, n, i);
+        let u = adjoint_term(t);
+        record::put_term(out, n, i, u);
+        i += 1;
+    }
+}
+
+// The adjoint's record to the front, sorted where it stands, and zeros past it.
+fn write_adjoint(a: &[u8], m: u64, n: usize, out: &mut [u8])
+    requires { ⌜ (32 + 24 * n ≤ length (now a)) × (32 + 24 * n ≤ length (now out)) × Canonical m (termsIn (now a) n) ⌝ }
+    ensures { λ _. ⌜ now (out .exit) ≡ encode m (adjointTerms (termsIn (now (a .entry)) n)) ++ zeros (length (now (out .entry)) - (32 + 24 * n)) ⌝ }
+{
+    record::put_header(out, m, n);
+    put_adjoint_terms(a, n, out);
+    rows::sort(out, Places::columns(n), n);
+    lent::wipe_from(out, 32 + 24 * n);
+}
+
+// The adjoint of a record, as a record.
+pub fn adjoint(a: &[u8], out: &mut [u8]) -> Written
+    ensures { λ r. ⌜ Gives (adjointed (length (now (out .entry))) (now (a .entry))) r (now (out .exit)) ⌝ }
+{
+    let c = record::check(a, 1);
+    if c.refusal.number != 0 {
+        let refusal = c.refusal;
+        return lent::refuse(out, refusal);
+    }
+    let n = c.terms;
+    let len = 32 + 24 * n;
+    if out.len() < len {
+        return lent::refuse(
+            out,
+            Refusal {
+                number: 11,
+                operand: 0,
+                place: 0,
+            },
+        );
+    }
+    write_adjoint(a, c.modes, n, out);
+    Written {
+        refusal: Refusal::NONE,
+        len,
+        branches: 0,
+    }
+}
