@@ -7,4 +7,5 @@ pub mod Elements
 pub mod Theorems
 pub mod Among
 pub mod Hermitian
+pub mod HermitianTheorems
 pub mod Unique
