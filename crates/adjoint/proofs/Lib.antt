@@ -3,3 +3,9 @@ pub mod Terms
 pub mod Writing
 pub mod Sorting
 pub mod Adjointed
+pub mod Elements
+pub mod Theorems
+pub mod Among
+pub mod Hermitian
+pub mod HermitianTheorems
+pub mod Unique

@@ -76,7 +76,7 @@ still-other t u e p q = go (order t u e)
 -- ---- insertion
 
 module _ (t : Term) where
-  by-order : (u : Term) (ts : List Term) (P : List Term → Type 0) → P (t ∷ u ∷ ts) → P (u ∷ inserted t ts) → P (inserted t (u ∷ ts))
+  pub by-order : (u : Term) (ts : List Term) (P : List Term → Type 0) → P (t ∷ u ∷ ts) → P (u ∷ inserted t ts) → P (inserted t (u ∷ ts))
   unfolding inserted
   by-order u ts P h k = go (before t u)
     where

@@ -1,11 +1,13 @@
 -- Hermitian: the adjoint's bytes equal the record's. Found term by term: each one's adjoint is among the terms.
 use mathlib.Core.Path.{_≡_}
 use mathlib.Core.Bool.{Bool, true, false, _&&_}
-use mathlib.Core.List.{List, _∷_}
+use mathlib.Core.List.{List, [], _∷_}
+use mathlib.Core.Logic.{_⊎_}
 use Prim.Native.Nat.{ℕ}
 use lib.Dec.{eqb}
 use Rattle.modes.specs.declared.Term.{Term}
 use Rattle.lent.specs.Every.{Every}
+use Rattle.record.specs.Terms.{before}
 use Rattle.record.specs.Numbers.{sameNumbers}
 use Rattle.record.specs.Refusals.{refusalOf}
 use Rattle.record.specs.declared.Tested.{Tested}
@@ -15,10 +17,14 @@ use Rattle.adjoint.specs.Adjoint.{adjointTerm, adjointBytes}
 unfoldable pub hermitianOf : List ℕ → Tested
 hermitianOf l = record { refusal = refusalOf 1 l; holds = eqb ((refusalOf 1 l) .number) 0 && sameNumbers (adjointBytes l) l }
 
+-- u stands before t
+abbrev pub earlier : Term → Term → Bool
+earlier t u = before u t
+
 -- t is one of the terms
-pub data Among (t : Term) : List Term → Type 0 where
-  here : {ts : List Term} → Among t (t ∷ ts)
-  later : {u : Term} {ts : List Term} → Among t ts → Among t (u ∷ ts)
+abbrev pub Among : Term → List Term → Type 0
+Among t [] = ⊥
+Among t (u ∷ ts) = (u ≡ t) ⊎ Among t ts
 
 -- every adjoint term of us is among ts
 abbrev pub Paired : List Term → List Term → Type 0

@@ -14,12 +14,12 @@ ghost use Rattle.modes.specs.Counts.{count, pairs};
 ghost use Rattle.lent.specs.Bytes.{put, zeros};
 ghost use Rattle.lent.specs.Every.{Every};
 ghost use Rattle.lent.specs.Outputs.{Gives};
-ghost use Rattle.record.specs.Terms.{before, Ascending};
+ghost use Rattle.record.specs.Terms.{Ascending};
 ghost use Rattle.record.specs.Layout.{columns, encode, termsIn};
 ghost use Rattle.record.specs.Canonical.{Canonical};
 ghost use Rattle.record.specs.Blocks.{countIf};
 ghost use Rattle.adjoint.specs.Adjoint.{Negatable, adjointTerm, adjointTerms, adjointed};
-ghost use Rattle.adjoint.specs.Hermitian.{Among, Paired, Tells, hermitianOf};
+ghost use Rattle.adjoint.specs.Hermitian.{earlier, Among, Paired, Tells, hermitianOf};
 
 // The number of pairs of the word's modes.
 fn pairs_in(word: u64) -> u32
@@ -97,5 +97,87 @@ pub fn adjoint(a: &[u8], out: &mut [u8]) -> Written
         refusal: Refusal::NONE,
         len,
         branches: 0,
+    }
+}
+
+// How many of the n terms stand before t, found by halving.
+fn count_before(s: &[u8], n: usize, t: Term) -> usize
+    requires { ⌜ (32 + 24 * n ≤ length (now s)) × Ascending (termsIn (now s) n) ⌝ }
+    ensures { λ r. ⌜ r ≡ countIf (earlier t) (termsIn (now (s .entry)) n) ⌝ }
+{
+    let mut low = 0;
+    let mut high = n;
+    while low < high {
+        let middle = low + (high - low) / 2;
+        let u = record::read_term(s, n, middle);
+        if record::is_before(u, t) {
+            low = middle + 1;
+        } else {
+            high = middle;
+        }
+    }
+    low
+}
+
+// Are the two one term?
+fn is_same(t: Term, u: Term) -> bool
+    ensures { λ r. ⌜ Tells r (t ≡ u) ⌝ }
+{
+    if t.ann != u.ann {
+        return false;
+    }
+    if t.cre != u.cre {
+        return false;
+    }
+    t.coeff == u.coeff
+}
+
+// Is t one of the n terms? It can only stand after those before it.
+fn has_term(s: &[u8], n: usize, t: Term) -> bool
+    requires { ⌜ (32 + 24 * n ≤ length (now s)) × Ascending (termsIn (now s) n) ⌝ }
+    ensures { λ r. ⌜ Tells r (Among t (termsIn (now (s .entry)) n)) ⌝ }
+{
+    let i = count_before(s, n, t);
+    if n <= i {
+        return false;
+    }
+    let u = record::read_term(s, n, i);
+    is_same(t, u)
+}
+
+// Is the adjoint of every term one of the n terms?
+fn is_paired(s: &[u8], n: usize) -> bool
+    requires { ⌜ (32 + 24 * n ≤ length (now s)) × Ascending (termsIn (now s) n) × Every Negatable (termsIn (now s) n) ⌝ }
+    ensures { λ r. ⌜ Tells r (Paired (termsIn (now (s .entry)) n) (termsIn (now (s .entry)) n)) ⌝ }
+{
+    let mut i = 0;
+    while i < n {
+        let t = record::read_term(s, n, i);
+        let u = adjoint_term(t);
+        if !has_term(s, n, u) {
+            return false;
+        }
+        i += 1;
+    }
+    true
+}
+
+// Are the adjoint's bytes the record's? No output is lent: they are if the adjoint of every term is among the terms.
+pub fn is_hermitian(a: &[u8]) -> Tested
+    ensures { λ r. ⌜ r ≡ hermitianOf (now (a .entry)) ⌝ }
+{
+    let c = record::check(a, 1);
+    if c.refusal.number != 0 {
+        let refusal = c.refusal;
+        return Tested {
+            refusal,
+            holds: false,
+        };
+    }
+    let n = c.terms;
+    let holds = is_paired(a, n);
+    Tested {
+        refusal: Refusal::NONE,
+        holds,
     }
 }

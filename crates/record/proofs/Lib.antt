@@ -8,6 +8,7 @@ pub mod Order
 pub mod Accepted
 pub mod Inverse
 pub mod Coefficients
+pub mod SameElements
 pub mod Columns
 pub mod Blocks
 pub mod Surveys

@@ -1,0 +1,48 @@
+-- The Hermitian test: the answer found term by term is that of the bytes.
+use mathlib.Core.Path.{_≡_, refl, sym, ap, _∙_}
+use mathlib.Core.Bool.{Bool, true, false, _&&_, true≢false}
+use mathlib.Core.List.{List}
+use Prim.Native.Nat.{ℕ}
+use lib.Dec.{eqb}
+use borrow.Author.Tests.{ne-eqb}
+use Rattle.modes.specs.Answers.{none}
+use Rattle.record.specs.Numbers.{sameNumbers}
+use Rattle.record.specs.Layout.{encode, modesOf, termsIn, termsOf}
+use Rattle.record.specs.Refusals.{refusalOf, checkedOf}
+use Rattle.record.specs.declared.Checked.{Checked}
+use Rattle.record.specs.declared.Tested.{Tested}
+use Rattle.record.proofs.Numbers.{same-numbers, numbers-same}
+use Rattle.record.proofs.Accepted.{Accepted, refused}
+use Rattle.record.proofs.Inverse.{Small, encode-decode}
+use Rattle.adjoint.specs.Adjoint.{adjointTerms, adjointBytes}
+use Rattle.adjoint.specs.Hermitian.{Paired, Tells, hermitianOf}
+use Rattle.adjoint.proofs.Among.{paired-same, same-paired}
+use Rattle.adjoint.proofs.Theorems.{bytes-terms}
+
+pub hermitian-refused : (l : List ℕ) (c : Checked) → c ≡ checkedOf 1 l → (c .refusal .number ≡ 0 → ⊥)
+    → _≡_ {A = Tested} (record { refusal = c .refusal; holds = false }) (hermitianOf l)
+unfolding hermitianOf
+hermitian-refused l c e h =
+    let r : refusalOf 1 l ≡ c .refusal = sym (ap (λ (d : Checked). d .refusal) (refused 1 l c e h)) in rw (r, ne-eqb _ _ h)
+
+module _ (l : List ℕ) (c : Checked) (k : Accepted 1 l c) (small : Small l) where
+  number : (refusalOf 1 l) .number ≡ 0
+  number = ap (λ r. r .number) (k .none)
+
+  pub same-bytes : Paired (termsOf l) (termsOf l) → adjointBytes l ≡ l
+  same-bytes p = ap (encode (modesOf l)) (paired-same (termsOf l) (k .canonical .ascending) p) ∙ encode-decode 1 l small number
+
+  pub bytes-paired : adjointBytes l ≡ l → Paired (termsOf l) (termsOf l)
+  bytes-paired e = same-paired (termsOf l) (sym (bytes-terms l number) ∙ ap termsOf e)
+
+  told : (b : Bool) → Tells b (Paired (termsOf l) (termsOf l)) → b ≡ sameNumbers (adjointBytes l) l
+  told true t = sym (rw (same-bytes (t .yes refl)) (numbers-same l))
+  told false t = go (sameNumbers (adjointBytes l) l) refl
+    where
+      go : (b : Bool) → sameNumbers (adjointBytes l) l ≡ b → false ≡ b
+      go true e = absurd (t .no refl (bytes-paired (same-numbers (adjointBytes l) l e)))
+      go false e = refl
+
+  pub hermitian-found : (b : Bool) → Tells b (Paired (termsIn l (c .terms)) (termsIn l (c .terms))) → _≡_ {A = Tested} (record { refusal = none; holds = b }) (hermitianOf l)
+  unfolding hermitianOf
+  hermitian-found b t = rw (k .none, ← told b (rw (k .terms) at t))
