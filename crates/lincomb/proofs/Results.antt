@@ -12,19 +12,20 @@ use borrow.Author.Tests.{eq-eqb, ne-eqb, le-leb, lt-leb, eqb-true, eqb-false, le
 use Rattle.modes.specs.declared.Term.{Term}
 use Rattle.modes.specs.declared.Refusal.{Refusal}
 use Rattle.modes.specs.declared.Written.{Written}
-use Rattle.modes.specs.Answers.{refusal, none}
+use Rattle.modes.specs.Answers.{refusal, none, wrote}
 use Rattle.modes.proofs.Digits.{lt-or-ge}
-use Rattle.lent.specs.Bytes.{zeros}
+use Rattle.lent.specs.Bytes.{put, zeros}
 use Rattle.lent.specs.Every.{Every}
 use Rattle.lent.specs.Outputs.{Output, refusedOutput, filledOutput, Gives}
 use Rattle.record.specs.Terms.{Ascending, weight}
-use Rattle.record.specs.Layout.{encode, modesOf, countOf, termsOf}
+use Rattle.record.specs.Layout.{header, columns, encode, modesOf, countOf, termsOf}
 use Rattle.record.specs.Refusals.{orElse, refusalOf, checkedOf}
 use Rattle.record.specs.Canonical.{Inside, Nonzero, Canonical}
 use Rattle.record.specs.declared.Checked.{Checked}
 use Rattle.record.proofs.Refusals.{or-first, or-second}
 use Rattle.record.proofs.Accepted.{neither, accepted-laid, accepted-canonical, accepted-none, Accepted, accepted, refused}
-use Rattle.record.proofs.Inverse.{decode-modes, decode-terms, encode-accepted}
+use Rattle.record.proofs.Columns.{record-written}
+use Rattle.record.proofs.Inverse.{length-encode, decode-modes, decode-terms, encode-accepted}
 use Rattle.lincomb.specs.Results.{pairRefusal, resultRefusal, recordOutput, resultOf, shut, standing, openedOf}
 use Rattle.lincomb.specs.Merging.{Sound}
 use Rattle.lincomb.specs.Tallies.{Tallied}
@@ -212,6 +213,16 @@ module _ (room branches : ℕ) (earlier : Refusal) (m : ℕ) (ts : List Term) wh
 
 pub gives-as : {o q : Output} {r : Written} {x : List ℕ} → o ≡ q → Gives o r x → Gives q r x
 gives-as {o} {q} {r} {x} e g = subst (λ (y : Output). Gives y r x) e g
+
+-- what the stores of a header, of columns and of zeros past them give
+pub record-given : (out one two three : List ℕ) (branches m n : ℕ) (ts : List Term) → n ≡ length ts → 32 + 24 * n ≤ length out
+    → one ≡ put out 0 (header m n) → two ≡ put one 32 (columns ts) → three ≡ take (32 + 24 * n) two ++ zeros (length two - (32 + 24 * n))
+    → Gives (filledOutput (length out) branches (encode m ts)) (wrote (32 + 24 * n) branches) three
+record-given out one two three branches m n ts count room e1 e2 e3 =
+    record {
+      answer = ap (λ (k : ℕ). wrote k branches) (ap (λ (k : ℕ). 32 + 24 * k) count ∙ sym (length-encode m ts));
+      bytes = record-written out one two three m n ts count room e1 e2 e3;
+    }
 
 -- a call that is not refused
 module _ (room branches : ℕ) (earlier : Refusal) (m : ℕ) (ts : List Term) (r : Written) (after : List ℕ)

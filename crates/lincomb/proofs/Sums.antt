@@ -2,24 +2,21 @@
 use mathlib.Core.Path.{_≡_, sym, ap, ap₂, _∙_}
 use mathlib.Core.Bool.{Bool, true, false}
 use mathlib.Core.List.{List, _++_, map}
-use Prim.Native.Nat.{ℕ, _+_, _*_, _-_}
+use Prim.Native.Nat.{ℕ, _+_, _-_}
 use lib.IntN.{ℤ, negℤ, _+ℤ_}
 use lib.ListN.{length, take}
 use Rattle.modes.specs.declared.Term.{Term}
 use Rattle.modes.specs.declared.Refusal.{Refusal}
 use Rattle.modes.specs.declared.Written.{Written}
-use Rattle.modes.specs.Answers.{none, wrote}
-use Rattle.lent.specs.Bytes.{put, zeros}
+use Rattle.modes.specs.Answers.{none}
 use Rattle.lent.specs.Every.{Every}
 use Rattle.lent.specs.Outputs.{refusedOutput, filledOutput, Gives}
 use Rattle.products.specs.Operators.{signed, element}
 use Rattle.record.specs.Terms.{weight}
-use Rattle.record.specs.Layout.{header, columns, encode, modesOf, termsOf}
+use Rattle.record.specs.Layout.{encode, modesOf, termsOf}
 use Rattle.record.specs.Refusals.{refusalOf}
 use Rattle.record.specs.Canonical.{Inside, Canonical}
 use Rattle.record.proofs.Accepted.{accepted-canonical}
-use Rattle.record.proofs.Columns.{record-written}
-use Rattle.record.proofs.Inverse.{length-encode}
 use Rattle.lincomb.specs.Normal.{join, dropZeros, normal}
 use Rattle.lincomb.specs.Results.{pairRefusal, resultRefusal, openedOf}
 use Rattle.lincomb.specs.Sums.{turn, sumTerms, combined, added, subtracted}
@@ -30,7 +27,7 @@ use Rattle.lincomb.specs.declared.Tally.{Tally}
 use Rattle.lincomb.proofs.Totals.{element-append, element-normal, element-turn}
 use Rattle.lincomb.proofs.Normal.{every-append, every-map, every-normal, ascending-turn, normal-ascending, normal-nonzero}
 use Rattle.lincomb.proofs.Merging.{merge-normal}
-use Rattle.lincomb.proofs.Results.{Opens, opens, shuts, sound, first-fine, second-fine, same-modes, Deliverable, deliverable, verdict-same, refused-earlier, refused-late, delivers, gives-as, result-earlier, result-accepted, result-modes, result-terms}
+use Rattle.lincomb.proofs.Results.{Opens, opens, shuts, sound, first-fine, second-fine, same-modes, Deliverable, deliverable, verdict-same, refused-earlier, refused-late, delivers, result-earlier, result-accepted, result-modes, result-terms}
 
 -- ---- each way through the call
 
@@ -72,17 +69,11 @@ module _ (minus : Bool) (a b out : List ℕ) (p : Opened) (ep : p ≡ openedOf a
         pub room-enough : Deliverable (length out) (t .terms) (t .weight)
         room-enough = deliverable (length out) (t .terms) (t .weight) (ap (λ (r : Refusal). r .number) (sym el) ∙ fine)
 
-        -- what the stores leave
-        pub result-given : (one two three : List ℕ) → one ≡ put out 0 (header (p .modes) (t .terms)) → two ≡ put one 32 (columns terms)
-            → three ≡ take (32 + 24 * t .terms) two ++ zeros (length two - (32 + 24 * t .terms))
-            → Gives (combined minus (length out) a b) (wrote (32 + 24 * t .terms) 0) three
-        result-given one two three e1 e2 e3 =
-            let written = record-written out one two three (p .modes) (t .terms) terms (g .terms) (room-enough .long) e1 e2 e3 in
-            let len : 32 + 24 * t .terms ≡ length (encode (p .modes) terms) = ap (λ (n : ℕ). 32 + 24 * n) (g .terms) ∙ sym (length-encode (p .modes) terms) in
-            gives-as
-            (ap₂ (λ (m : ℕ) (ts : List Term). filledOutput (length out) 0 (encode m ts)) (ready .modes) terms-are
-            ∙ delivers (length out) 0 (pairRefusal a b) (modesOf a) (sumTerms minus a b) (ready .pair) late judged fine)
-            (record { answer = ap (λ (n : ℕ). wrote n 0) len; bytes = written })
+        -- the record that the code writes is the definition's
+        pub result-delivered : filledOutput (length out) 0 (encode (p .modes) terms) ≡ combined minus (length out) a b
+        result-delivered =
+            ap₂ (λ (m : ℕ) (ts : List Term). filledOutput (length out) 0 (encode m ts)) (ready .modes) terms-are
+            ∙ delivers (length out) 0 (pairRefusal a b) (modesOf a) (sumTerms minus a b) (ready .pair) late judged fine
 
 -- ---- the theorems, of the bytes that a call leaves where it is not refused
 

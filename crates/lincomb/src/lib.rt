@@ -10,8 +10,8 @@ ghost use lib.Dec.{eqb};
 ghost use lib.IntN.{natAbs};
 ghost use lib.ListN.{length};
 ghost use Rattle.lent.specs.Bytes.{put};
-ghost use Rattle.lent.specs.Outputs.{Gives};
-ghost use Rattle.record.specs.Layout.{columns};
+ghost use Rattle.lent.specs.Outputs.{Gives, filledOutput};
+ghost use Rattle.record.specs.Layout.{columns, encode};
 ghost use Rattle.lincomb.specs.Normal.{join, dropZeros};
 ghost use Rattle.lincomb.specs.Results.{shut, openedOf, resultRefusal};
 ghost use Rattle.lincomb.specs.Sums.{turn, combined, added, subtracted};
@@ -242,6 +242,32 @@ fn put_terms(sign: Sign, a: &[u8], na: usize, b: &[u8], nb: usize, out: &mut [u8
     }
 }
 
+// The record of these terms, with zeros past it.
+fn write_sum(
+    sign: Sign,
+    a: &[u8],
+    na: usize,
+    b: &[u8],
+    nb: usize,
+    out: &mut [u8],
+    m: u64,
+    n: usize,
+) -> Written
+    requires { ⌜ Sound (now a) na × Sound (now b) nb ⌝ }
+    requires { ⌜ (n ≡ length (dropZeros (onward (sign .0) (now a) na (now b) nb 0 0))) × (32 + 24 * n ≤ length (now out)) × (n ≤ 2048) ⌝ }
+    ensures { λ r. ⌜ Gives (filledOutput (length (now (out .entry))) 0 (encode m (dropZeros (onward (sign .0) (now (a .entry)) na (now (b .entry)) nb 0 0)))) r (now (out .exit)) ⌝ }
+{
+    record::put_header(out, m, n);
+    put_terms(sign, a, na, b, nb, out, n);
+    let end = 32 + 24 * n;
+    lent::wipe_from(out, end);
+    Written {
+        refusal: Refusal::NONE,
+        len: end,
+        branches: 0,
+    }
+}
+
 // The first record with the second, each of whose terms has the sign.
 fn combine(sign: Sign, a: &[u8], b: &[u8], out: &mut [u8]) -> Written
     ensures { λ r. ⌜ Gives (combined (sign .0) (length (now (out .entry))) (now (a .entry)) (now (b .entry))) r (now (out .exit)) ⌝ }
@@ -259,15 +285,7 @@ fn combine(sign: Sign, a: &[u8], b: &[u8], out: &mut [u8]) -> Written
     if late.number != 0 {
         return lent::refuse(out, late);
     }
-    record::put_header(out, p.modes, n);
-    put_terms(sign, a, na, b, nb, out, n);
-    let end = 32 + 24 * n;
-    lent::wipe_from(out, end);
-    Written {
-        refusal: Refusal::NONE,
-        len: end,
-        branches: 0,
-    }
+    write_sum(sign, a, na, b, nb, out, p.modes, n)
 }
 
 // The record of the sum.

@@ -25,7 +25,10 @@ add-t16 : tie.Need-add-t16
 add-t16 c = search needs
 
 returns-2 : tie.Need-returns-2
-returns-2 c = only-right (c .before .before .before .before .before .before .args .sign .0) _ _ _ _ _ _ _ _ (c .before .before .before .if1 .left) (c .before .read-term2 .ensures) (c .turned .ensures) (c .before .before .if2 .taken) (omega arith)
+returns-2 c =
+    let at-if1 = c .before .before .before in
+    let at-start = at-if1 .before .before .before in
+    only-right (at-start .args .sign .0) _ _ _ _ _ _ _ _ (at-if1 .if1 .left) (c .before .read-term2 .ensures) (c .turned .ensures) (c .before .before .if2 .taken) (omega arith)
 
 read-term-requires-3 : tie.Need-read-term-requires-3
 read-term-requires-3 c κs = search needs
@@ -34,7 +37,9 @@ read-term-requires-4 : tie.Need-read-term-requires-4
 read-term-requires-4 c κs = search needs
 
 turned-requires-2 : tie.Need-turned-requires-2
-turned-requires-2 c κs = omega (arith, small-read _ _ (c .before .before .before .before .before .before .args .j) _ (c .before .before .before .before .before .before .pre .0 .1) (c .read-term4 .ensures))
+turned-requires-2 c κs =
+    let at-start = c .before .before .before .before .before .before in
+    omega (arith, small-read _ _ (at-start .args .j) _ (at-start .pre .0 .1) (c .read-term4 .ensures))
 
 is-before-requires : tie.Need-is-before-requires
 is-before-requires c κs = search needs
@@ -44,7 +49,12 @@ add-t19 c = search needs
 
 returns-3 : tie.Need-returns-3
 returns-3 c =
-    step-less (c .before .before .before .before .before .before .before .before .before .args .sign .0) _ _ _ _ _ _ _ _ (c .before .before .before .before .before .before .if1 .left) (c .before .before .before .read-term4 .ensures) (c .before .before .turned2 .ensures) _ (c .before .before .before .before .before .if2 .left) (c .before .before .before .before .read-term3 .ensures)
+    let at-read-term4 = c .before .before .before in
+    let at-read-term3 = at-read-term4 .before in
+    let at-if2 = at-read-term3 .before in
+    let at-if1 = at-if2 .before in
+    let at-start = at-if1 .before .before .before in
+    step-less (at-start .args .sign .0) _ _ _ _ _ _ _ _ (at-if1 .if1 .left) (at-read-term4 .read-term4 .ensures) (c .before .before .turned2 .ensures) _ (at-if2 .if2 .left) (at-read-term3 .read-term3 .ensures)
     (sym (c .before .is-before .ensures) ∙ c .if3 .taken)
 
 is-before-requires-2 : tie.Need-is-before-requires-2
@@ -55,13 +65,24 @@ add-t21 c = search needs
 
 returns-4 : tie.Need-returns-4
 returns-4 c =
-    step-greater (c .before .before .before .before .before .before .before .before .before .before .before .args .sign .0) _ _ _ _ _ _ _ _ (c .before .before .before .before .before .before .before .before .if1 .left) (c .before .before .before .before .before .read-term4 .ensures) (c .before .before .before .before .turned2 .ensures) _ (c .before .before .before .before .before .before .before .if2 .left) (c .before .before .before .before .before .before .read-term3 .ensures)
-    (sym (c .before .before .before .is-before .ensures) ∙ c .before .before .if3 .left) (sym (c .before .is-before2 .ensures) ∙ c .if4 .taken)
+    let at-is-before = c .before .before .before in
+    let at-turned2 = at-is-before .before in
+    let at-read-term4 = at-turned2 .before in
+    let at-read-term3 = at-read-term4 .before in
+    let at-if2 = at-read-term3 .before in
+    let at-if1 = at-if2 .before in
+    let at-start = at-if1 .before .before .before in
+    step-greater (at-start .args .sign .0) _ _ _ _ _ _ _ _ (at-if1 .if1 .left) (at-read-term4 .read-term4 .ensures) (at-turned2 .turned2 .ensures) _ (at-if2 .if2 .left) (at-read-term3 .read-term3 .ensures)
+    (sym (at-is-before .is-before .ensures) ∙ c .before .before .if3 .left) (sym (c .before .is-before2 .ensures) ∙ c .if4 .taken)
 
 joined-requires : tie.Need-joined-requires
 joined-requires c κs =
-    let t = small-read _ _ (c .before .before .before .before .before .before .before .before .before .before .before .args .i) _ (c .before .before .before .before .before .before .before .before .before .before .before .pre .0 .0) (c .before .before .before .before .before .before .read-term3 .ensures) in
-    let u = small-turned (c .before .before .before .before .before .before .before .before .before .before .before .args .sign .0) _ _ (c .before .before .before .before .turned2 .ensures) (small-read _ _ (c .before .before .before .before .before .before .before .before .before .before .before .args .j) _ (c .before .before .before .before .before .before .before .before .before .before .before .pre .0 .1) (c .before .before .before .before .before .read-term4 .ensures)) in
+    let at-turned2 = c .before .before .before .before in
+    let at-read-term4 = at-turned2 .before in
+    let at-read-term3 = at-read-term4 .before in
+    let at-start = at-read-term3 .before .before .before .before .before in
+    let t = small-read _ _ (at-start .args .i) _ (at-start .pre .0 .0) (at-read-term3 .read-term3 .ensures) in
+    let u = small-turned (at-start .args .sign .0) _ _ (at-turned2 .turned2 .ensures) (small-read _ _ (at-start .args .j) _ (at-start .pre .0 .1) (at-read-term4 .read-term4 .ensures)) in
     omega arith
 
 add-t22 : tie.Need-add-t22
@@ -72,8 +93,16 @@ add-t23 c = search needs
 
 returns-5 : tie.Need-returns-5
 returns-5 c =
-    step-level (c .before .before .before .before .before .before .before .before .before .before .before .before .args .sign .0) _ _ _ _ _ _ _ _ (c .before .before .before .before .before .before .before .before .before .if1 .left) (c .before .before .before .before .before .before .read-term4 .ensures) (c .before .before .before .before .before .turned2 .ensures) _ (c .before .before .before .before .before .before .before .before .if2 .left) (c .before .before .before .before .before .before .before .read-term3 .ensures) _ (c .joined .ensures)
-    (sym (c .before .before .before .before .is-before .ensures) ∙ c .before .before .before .if3 .left) (sym (c .before .before .is-before2 .ensures) ∙ c .before .if4 .left)
+    let at-if3 = c .before .before .before in
+    let at-is-before = at-if3 .before in
+    let at-turned2 = at-is-before .before in
+    let at-read-term4 = at-turned2 .before in
+    let at-read-term3 = at-read-term4 .before in
+    let at-if2 = at-read-term3 .before in
+    let at-if1 = at-if2 .before in
+    let at-start = at-if1 .before .before .before in
+    step-level (at-start .args .sign .0) _ _ _ _ _ _ _ _ (at-if1 .if1 .left) (at-read-term4 .read-term4 .ensures) (at-turned2 .turned2 .ensures) _ (at-if2 .if2 .left) (at-read-term3 .read-term3 .ensures) _ (c .joined .ensures)
+    (sym (at-is-before .is-before .ensures) ∙ at-if3 .if3 .left) (sym (c .before .before .is-before2 .ensures) ∙ c .before .if4 .left)
 
 pub next-spec : {M : Type 1} → statement M
 next-spec =

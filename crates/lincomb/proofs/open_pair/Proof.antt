@@ -21,16 +21,30 @@ refused-requires-2 : tie.Need-refused-requires-2
 refused-requires-2 c κs = search needs
 
 returns-2 : tie.Need-returns-2
-returns-2 c = c .refused2 .ensures ∙ second-refused _ _ _ (c .before .before .before .before .before .before .before .check .ensures) (c .before .before .before .before .before .if1 .left) _ (c .before .before .before .before .check2 .ensures) (c .before .before .if2 .taken)
+returns-2 c =
+    let at-check2 = c .before .before .before .before in
+    let at-if1 = at-check2 .before in
+    let at-check = at-if1 .before .before in
+    c .refused2 .ensures ∙ second-refused _ _ _ (at-check .check .ensures) (at-if1 .if1 .left) _ (at-check2 .check2 .ensures) (c .before .before .if2 .taken)
 
 refused-requires-3 : tie.Need-refused-requires-3
 refused-requires-3 c κs = search needs
 
 returns-3 : tie.Need-returns-3
-returns-3 c = c .refused3 .ensures ∙ other-modes _ _ _ (c .before .before .before .before .before .before .before .before .before .check .ensures) (c .before .before .before .before .before .before .before .if1 .left) _ (c .before .before .before .before .before .before .check2 .ensures) (c .before .before .before .before .if2 .left) (c .before .if3 .taken)
+returns-3 c =
+    let at-if2 = c .before .before .before .before in
+    let at-check2 = at-if2 .before .before in
+    let at-if1 = at-check2 .before in
+    let at-check = at-if1 .before .before in
+    c .refused3 .ensures ∙ other-modes _ _ _ (at-check .check .ensures) (at-if1 .if1 .left) _ (at-check2 .check2 .ensures) (at-if2 .if2 .left) (c .before .if3 .taken)
 
 returns-4 : tie.Need-returns-4
-returns-4 c = both-open _ _ _ (c .before .before .before .before .before .before .before .before .check .ensures) (c .before .before .before .before .before .before .if1 .left) _ (c .before .before .before .before .before .check2 .ensures) (c .before .before .before .if2 .left) (c .if3 .left)
+returns-4 c =
+    let at-if2 = c .before .before .before in
+    let at-check2 = at-if2 .before .before in
+    let at-if1 = at-check2 .before in
+    let at-check = at-if1 .before .before in
+    both-open _ _ _ (at-check .check .ensures) (at-if1 .if1 .left) _ (at-check2 .check2 .ensures) (at-if2 .if2 .left) (c .if3 .left)
 
 pub open-pair-spec : {M : Type 1} → statement M
 open-pair-spec =

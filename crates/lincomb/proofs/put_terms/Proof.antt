@@ -32,21 +32,36 @@ size-requires c κs = search needs
 
 put-term-requires : tie.Need-put-term-requires Inv-loop μ-loop
 put-term-requires c κs =
-    let r = in-room _ _ _ _ (c .before .before .before .before .before .before .before .before .before .before .pre .1 .0) (c .before .before .before .before .before .before .before .before .before .before .pre .1 .1) _ _ (c .before .before .before .before .before .before .loop .inv .2) in
-    (omega (arith, r, c .before .before .before .before .before .before .before .before .before .before .pre .1 .1), has-place _ _ _ _ (c .before .before .before .before .before .before .before .before .before .before .pre .1 .0) (c .before .before .before .before .before .before .before .before .before .before .pre .1 .1) _ _ (c .before .before .before .before .before .before .loop .inv .2) _ _ (c .before .before .before .before .next .ensures .front) (λ e. c .before .if1 .taken (c .before .before .size .ensures .0 ∙ e)))
+    let p = c .before .before .before .before .before .before .before .before .before .before .pre .1 in
+    let v = c .before .before .before .before .before .before .loop .inv .2 in
+    let place = has-place _ _ _ _ (p .0) (p .1) _ _ v _ _ (c .before .before .before .before .next .ensures .front) (λ e. c .before .if1 .taken (c .before .before .size .ensures .0 ∙ e)) in
+    (omega (arith, in-room _ _ _ _ (p .0) (p .1) _ _ v, p .1), place)
 
 add-k : tie.Need-add-k Inv-loop μ-loop
-add-k c = omega (arith, has-place _ _ _ _ (c .before .before .before .before .before .before .before .before .before .before .before .before .before .pre .1 .0) (c .before .before .before .before .before .before .before .before .before .before .before .before .before .pre .1 .1) _ _ (c .before .before .before .before .before .before .before .before .before .loop .inv .2) _ _ (c .before .before .before .before .before .before .before .next .ensures .front) (λ e. c .before .before .before .before .if1 .taken (c .before .before .before .before .before .size .ensures .0 ∙ e)))
+add-k c =
+    let at-if1 = c .before .before .before .before in
+    let at-size = at-if1 .before in
+    let at-next = at-size .before .before in
+    let at-loop = at-next .before .before in
+    let at-start = at-loop .before .before .before .before in
+    let p = at-start .pre .1 in
+    omega (arith, has-place _ _ _ _ (p .0) (p .1) _ _ (at-loop .loop .inv .2) _ _ (at-next .next .ensures .front) (λ e. at-if1 .if1 .taken (at-size .size .ensures .0 ∙ e)))
 
 loop-less : tie.Need-loop-less Inv-loop μ-loop
 loop-less c = search needs
 
 loop-again : tie.Need-loop-again Inv-loop μ-loop
 loop-again c =
-    let s = c .before .before .before .before .before .before .before .next .ensures in (
+    let at-if1 = c .before .before .before .before in
+    let at-size = at-if1 .before in
+    let at-next = at-size .before .before in
+    let at-loop = at-next .before .before in
+    let at-start = at-loop .before .before .before .before in
+    let p = at-start .pre .1 in
+    let s = at-next .next .ensures in (
       s .left-in,
       s .right-in,
-      writes _ _ _ _ (c .before .before .before .before .before .before .before .before .before .before .before .before .before .pre .1 .0) (c .before .before .before .before .before .before .before .before .before .before .before .before .before .pre .1 .1) _ _ (c .before .before .before .before .before .before .before .before .before .loop .inv .2) _ _ (s .front) (λ e. c .before .before .before .before .if1 .taken (c .before .before .before .before .before .size .ensures .0 ∙ e)) _ (c .before .before .put-term .ensures),
+      writes _ _ _ _ (p .0) (p .1) _ _ (at-loop .loop .inv .2) _ _ (s .front) (λ e. at-if1 .if1 .taken (at-size .size .ensures .0 ∙ e)) _ (c .before .before .put-term .ensures),
     )
 
 loop-less-2 : tie.Need-loop-less-2 Inv-loop μ-loop
@@ -54,19 +69,18 @@ loop-less-2 c = search needs
 
 loop-again-2 : tie.Need-loop-again-2 Inv-loop μ-loop
 loop-again-2 c =
-    let s = c .before .before .before .next .ensures in (
-      s .left-in,
-      s .right-in,
-      leaves-out _ _ _ _ (c .before .before .before .before .before .before .before .before .before .pre .1 .0) (c .before .before .before .before .before .before .before .before .before .pre .1 .1) _ _ (c .before .before .before .before .before .loop .inv .2) _ _ (s .front) (sym (c .before .size .ensures .0) ∙ c .if1 .left),
-    )
+    let p = c .before .before .before .before .before .before .before .before .before .pre .1 in
+    let s = c .before .before .before .next .ensures in
+    (s .left-in, s .right-in, leaves-out _ _ _ _ (p .0) (p .1) _ _ (c .before .before .before .before .before .loop .inv .2) _ _ (s .front) (sym (c .before .size .ensures .0) ∙ c .if1 .left))
 
 same-length : tie.Need-same-length Inv-loop μ-loop
-same-length c = in-room _ _ _ _ (c .before .before .before .before .before .pre .1 .0) (c .before .before .before .before .before .pre .1 .1) _ _ (c .before .loop .inv .2)
+same-length c = let p = c .before .before .before .before .before .pre .1 in in-room _ _ _ _ (p .0) (p .1) _ _ (c .before .loop .inv .2)
 
 returns : tie.Need-returns Inv-loop μ-loop
 returns c =
+    let p = c .before .before .before .before .before .pre .1 in
     let v = c .before .loop .inv in
-    writing-ends _ _ _ _ (c .before .before .before .before .before .pre .1 .0) (c .before .before .before .before .before .pre .1 .1) _ _ (v .2) (spent (c .before .before .before .before .before .args .sign .0) _ _ _ _ _ _ (v .0) (v .1) (omega arith))
+    writing-ends _ _ _ _ (p .0) (p .1) _ _ (v .2) (spent (c .before .before .before .before .before .args .sign .0) _ _ _ _ _ _ (v .0) (v .1) (omega arith))
 
 pub put-terms-spec : {M : Type 1} → statement M
 put-terms-spec =

@@ -27,7 +27,10 @@ count-up-to-requires-2 : tie.Need-count-up-to-requires-2
 count-up-to-requires-2 c κs = readable 1 _ _ (accepted 1 _ _ (c .before .before .before .check .ensures) (c .before .if1 .left))
 
 returns-2 : tie.Need-returns-2
-returns-2 c = stretch-none _ _ _ (c .if2 .taken) ∙ block-found _ _ _ (accepted 1 _ _ (c .before .before .before .before .before .check .ensures) (c .before .before .before .if1 .left)) _ _ (c .before .before .count-up-to .ensures) (c .before .count-up-to2 .ensures)
+returns-2 c =
+    let at-if1 = c .before .before .before in
+    let at-check = at-if1 .before .before in
+    stretch-none _ _ _ (c .if2 .taken) ∙ block-found _ _ _ (accepted 1 _ _ (at-check .check .ensures) (at-if1 .if1 .left)) _ _ (c .before .before .count-up-to .ensures) (c .before .count-up-to2 .ensures)
 
 mul-t8 : tie.Need-mul-t8
 mul-t8 c = omega (arith, bounded c)
@@ -48,7 +51,10 @@ mul-t13 : tie.Need-mul-t13
 mul-t13 c = omega (arith, bounded c)
 
 returns-3 : tie.Need-returns-3
-returns-3 c = stretch-some _ _ _ (c .if2 .left) ∙ block-found _ _ _ (accepted 1 _ _ (c .before .before .before .before .before .check .ensures) (c .before .before .before .if1 .left)) _ _ (c .before .before .count-up-to .ensures) (c .before .count-up-to2 .ensures)
+returns-3 c =
+    let at-if1 = c .before .before .before in
+    let at-check = at-if1 .before .before in
+    stretch-some _ _ _ (c .if2 .left) ∙ block-found _ _ _ (accepted 1 _ _ (at-check .check .ensures) (at-if1 .if1 .left)) _ _ (c .before .before .count-up-to .ensures) (c .before .count-up-to2 .ensures)
 
 pub block-bounds-spec : {M : Type 1} → statement M
 block-bounds-spec =

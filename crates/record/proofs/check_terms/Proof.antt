@@ -35,9 +35,14 @@ refused-requires c κs = search needs
 
 returns : tie.Need-returns Inv-loop μ-loop
 returns c =
-    let judged = c .before .before .before .term-refusal .ensures ∙ ap (λ (up : Bool). termRefusal (c .before .before .before .before .before .before .before .before .before .args .operand) (c .before .before .before .before .before .before .before .before .before .args .m) (c .before .before .before .before .before .before .before .loop .i) up (c .before .before .before .before .before .read-term .result)) (c .before .before .before .before .follows .ensures) in
+    let at-term-refusal = c .before .before .before in
+    let at-follows = at-term-refusal .before in
+    let at-read-term = at-follows .before in
+    let at-loop = at-read-term .before .before in
+    let at-start = at-loop .before .before in
+    let judged = at-term-refusal .term-refusal .ensures ∙ ap (λ (up : Bool). termRefusal (at-start .args .operand) (at-start .args .m) (at-loop .loop .i) up (at-read-term .read-term .result)) (at-follows .follows .ensures) in
     c .refused .ensures
-    ∙ term-refused _ _ _ _ (c .before .before .before .before .before .before .before .before .before .pre .0) (c .before .before .before .before .before .before .before .before .before .pre .1) (c .before .before .before .before .before .before .before .before .before .pre .2) _ (refuses _ _ _ _ _ _ _ (c .before .before .before .before .before .before .before .loop .inv .1) _ (c .before .before .before .before .before .read-term .ensures) _ judged (c .before .if1 .taken)) (c .before .if1 .taken)
+    ∙ term-refused _ _ _ _ (at-start .pre .0) (at-start .pre .1) (at-start .pre .2) _ (refuses _ _ _ _ _ _ _ (at-loop .loop .inv .1) _ (at-read-term .read-term .ensures) _ judged (c .before .if1 .taken)) (c .before .if1 .taken)
 
 size-requires : tie.Need-size-requires Inv-loop μ-loop
 size-requires c κs = search needs
@@ -53,22 +58,30 @@ loop-less c = search needs
 
 loop-again : tie.Need-loop-again Inv-loop μ-loop
 loop-again c =
-    let judged = c .before .before .before .before .term-refusal .ensures ∙ ap (λ (up : Bool). termRefusal (c .before .before .before .before .before .before .before .before .before .before .args .operand) (c .before .before .before .before .before .before .before .before .before .before .args .m) (c .before .before .before .before .before .before .before .before .loop .i) up (c .before .before .before .before .before .before .read-term .result)) (c .before .before .before .before .before .follows .ensures) in
-    (search needs, rw (c .heavier .ensures) (goes _ _ _ _ _ _ _ (c .before .before .before .before .before .before .before .before .loop .inv .1) _ (c .before .before .before .before .before .before .read-term .ensures) _ judged (c .before .before .if1 .left) _ (c .before .size .ensures .0)))
+    let at-term-refusal = c .before .before .before .before in
+    let at-follows = at-term-refusal .before in
+    let at-read-term = at-follows .before in
+    let at-loop = at-read-term .before .before in
+    let at-start = at-loop .before .before in
+    let judged = at-term-refusal .term-refusal .ensures ∙ ap (λ (up : Bool). termRefusal (at-start .args .operand) (at-start .args .m) (at-loop .loop .i) up (at-read-term .read-term .result)) (at-follows .follows .ensures) in
+    (search needs, rw (c .heavier .ensures) (goes _ _ _ _ _ _ _ (at-loop .loop .inv .1) _ (at-read-term .read-term .ensures) _ judged (c .before .before .if1 .left) _ (c .before .size .ensures .0)))
 
 refused-requires-2 : tie.Need-refused-requires-2 Inv-loop μ-loop
 refused-requires-2 c κs = search needs
 
 returns-2 : tie.Need-returns-2 Inv-loop μ-loop
 returns-2 c =
-    let done = none-left (c .before .before .before .before .before .args .s .now) _ _ (c .before .before .loop-test .left) in
+    let at-loop = c .before .before .before in
+    let at-start = at-loop .before .before in
+    let done = none-left (at-start .args .s .now) _ _ (c .before .before .loop-test .left) in
     c .refused2 .ensures
-    ∙ heavy-refused _ _ _ _ (c .before .before .before .before .before .pre .0) (c .before .before .before .before .before .pre .1) (c .before .before .before .before .before .pre .2) (none-refused _ _ _ _ _ _ _ (c .before .before .before .loop .inv .1) done) (too-heavy _ _ _ _ _ _ _ (c .before .before .before .loop .inv .1) done (c .before .if2 .taken))
+    ∙ heavy-refused _ _ _ _ (at-start .pre .0) (at-start .pre .1) (at-start .pre .2) (none-refused _ _ _ _ _ _ _ (at-loop .loop .inv .1) done) (too-heavy _ _ _ _ _ _ _ (at-loop .loop .inv .1) done (c .before .if2 .taken))
 
 returns-3 : tie.Need-returns-3 Inv-loop μ-loop
 returns-3 c =
-    let done = none-left (c .before .before .before .before .args .s .now) _ _ (c .before .loop-test .left) in
-    accepted-is _ _ _ _ (c .before .before .before .before .pre .0) (c .before .before .before .before .pre .1) (c .before .before .before .before .pre .2) (none-refused _ _ _ _ _ _ _ (c .before .before .loop .inv .1) done) _
+    let at-start = c .before .before .before .before in
+    let done = none-left (at-start .args .s .now) _ _ (c .before .loop-test .left) in
+    accepted-is _ _ _ _ (at-start .pre .0) (at-start .pre .1) (at-start .pre .2) (none-refused _ _ _ _ _ _ _ (c .before .before .loop .inv .1) done) _
     (total _ _ _ _ _ _ _ (c .before .before .loop .inv .1) done (c .if2 .left)) (c .if2 .left)
 
 pub check-terms-spec : {M : Type 1} → statement M

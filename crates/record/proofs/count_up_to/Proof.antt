@@ -39,14 +39,18 @@ loop-less c = search needs
 
 loop-again : tie.Need-loop-again Inv-loop μ-loop
 loop-again c =
-    (omega arith, search needs, halving-up (c .before .before .before .before .before .before .args .past) (c .before .before .before .before .before .before .args .ann) _ (c .before .before .before .before .before .before .pre .1) _ _ _ _ (c .before .before .read-term .ensures) (c .before .before .before .before .loop .inv .2) (sym (c .before .is-up-to .ensures) ∙ c .if1 .taken))
+    let at-loop = c .before .before .before .before in
+    let at-start = at-loop .before .before in
+    (omega arith, search needs, halving-up (at-start .args .past) (at-start .args .ann) _ (at-start .pre .1) _ _ _ _ (c .before .before .read-term .ensures) (at-loop .loop .inv .2) (sym (c .before .is-up-to .ensures) ∙ c .if1 .taken))
 
 loop-less-2 : tie.Need-loop-less-2 Inv-loop μ-loop
 loop-less-2 c = search needs
 
 loop-again-2 : tie.Need-loop-again-2 Inv-loop μ-loop
 loop-again-2 c =
-    (omega arith, omega arith, halving-down (c .before .before .before .before .before .before .args .past) (c .before .before .before .before .before .before .args .ann) _ (c .before .before .before .before .before .before .pre .1) _ _ _ _ (c .before .before .read-term .ensures) (c .before .before .before .before .loop .inv .2) (sym (c .before .is-up-to .ensures) ∙ c .if1 .left))
+    let at-loop = c .before .before .before .before in
+    let at-start = at-loop .before .before in
+    (omega arith, omega arith, halving-down (at-start .args .past) (at-start .args .ann) _ (at-start .pre .1) _ _ _ _ (c .before .before .read-term .ensures) (at-loop .loop .inv .2) (sym (c .before .is-up-to .ensures) ∙ c .if1 .left))
 
 returns : tie.Need-returns Inv-loop μ-loop
 returns c = halving-ends _ _ _ _ (omega arith) (c .before .loop .inv .2)

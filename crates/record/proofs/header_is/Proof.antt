@@ -80,7 +80,24 @@ half-requires-8 c κs = search needs
 
 returns-8 : tie.Need-returns-8
 unfolding numbers sameNumbers
-returns-8 c = rw (← c .half8 .ensures .0, eq-eqb _ _ (sym (c .before .before .before .before .before .before .before .before .before .before .before .before .before .before .half .ensures .0) ∙ c .before .before .before .before .before .before .before .before .before .before .before .before .before .if1 .left), eq-eqb _ _ (sym (c .before .before .before .before .before .before .before .before .before .before .before .before .half2 .ensures .0) ∙ c .before .before .before .before .before .before .before .before .before .before .before .if2 .left), eq-eqb _ _ (sym (c .before .before .before .before .before .before .before .before .before .before .half3 .ensures .0) ∙ c .before .before .before .before .before .before .before .before .before .if3 .left), eq-eqb _ _ (sym (c .before .before .before .before .before .before .before .before .half4 .ensures .0) ∙ c .before .before .before .before .before .before .before .if4 .left), eq-eqb _ _ (sym (c .before .before .before .before .before .before .half5 .ensures .0) ∙ c .before .before .before .before .before .if5 .left), eq-eqb _ _ (sym (c .before .before .before .before .half6 .ensures .0) ∙ c .before .before .before .if6 .left), eq-eqb _ _ (sym (c .before .before .half7 .ensures .0) ∙ c .before .if7 .left)) (sym (and-true _))
+returns-8 c =
+    let c7 = c .before in
+    let c6 = c7 .before .before in
+    let c5 = c6 .before .before in
+    let c4 = c5 .before .before in
+    let c3 = c4 .before .before in
+    let c2 = c3 .before .before in
+    let c1 = c2 .before .before in
+    rw (
+      ← c .half8 .ensures .0,
+      eq-eqb _ _ (sym (c1 .before .half .ensures .0) ∙ c1 .if1 .left),
+      eq-eqb _ _ (sym (c2 .before .half2 .ensures .0) ∙ c2 .if2 .left),
+      eq-eqb _ _ (sym (c3 .before .half3 .ensures .0) ∙ c3 .if3 .left),
+      eq-eqb _ _ (sym (c4 .before .half4 .ensures .0) ∙ c4 .if4 .left),
+      eq-eqb _ _ (sym (c5 .before .half5 .ensures .0) ∙ c5 .if5 .left),
+      eq-eqb _ _ (sym (c6 .before .half6 .ensures .0) ∙ c6 .if6 .left),
+      eq-eqb _ _ (sym (c7 .before .half7 .ensures .0) ∙ c7 .if7 .left),
+    ) (sym (and-true _))
 
 pub header-is-spec : {M : Type 1} → statement M
 header-is-spec =

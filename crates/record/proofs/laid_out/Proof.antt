@@ -48,8 +48,12 @@ header-is-requires c κs = search needs
 
 returns-5 : tie.Need-returns-5
 returns-5 c =
-    header-decides _ _ (c .before .before .before .before .from-count .result) (omega arith) (c .before .before .before .before .from-count .ensures ∙ ap spaceOf (c .before .before .before .before .before .before .before .half .ensures .0)) (ap isMade (c .before .before .enum-told .given .1)) (omega arith)
-    (c .header-is .ensures ∙ ap₂ (λ (m n : ℕ). sameNumbers (numbers 4 (c .before .before .before .before .before .before .before .before .before .before .args .s .now) 0 8) (fields m n)) (c .before .before .before .before .before .before .before .half .ensures .0) (c .before .before .before .before .before .before .half2 .ensures .0))
+    let at-from-count = c .before .before .before .before in
+    let at-half2 = at-from-count .before .before in
+    let at-half = at-half2 .before in
+    let at-start = at-half .before .before .before in
+    header-decides _ _ (at-from-count .from-count .result) (omega arith) (at-from-count .from-count .ensures ∙ ap spaceOf (at-half .half .ensures .0)) (ap isMade (c .before .before .enum-told .given .1)) (omega arith)
+    (c .header-is .ensures ∙ ap₂ (λ (m n : ℕ). sameNumbers (numbers 4 (at-start .args .s .now) 0 8) (fields m n)) (at-half .half .ensures .0) (at-half2 .half2 .ensures .0))
 
 pub laid-out-spec : {M : Type 1} → statement M
 laid-out-spec =

@@ -53,7 +53,9 @@ same-length c = search needs
 
 returns : tie.Need-returns
 unfolding header putEach
-returns c = cc (put-each 4 (c .before .before .before .before .before .before .before .before .before .before .before .before .before .before .before .before .before .before .before .before .before .before .before .before .before .before .before .before .before .before .before .before .before .args .out .now) 0 (fields (c .before .before .before .before .before .before .before .before .before .before .before .before .before .before .before .before .before .before .before .before .before .before .before .before .before .before .before .before .before .before .before .before .before .args .m) (c .before .before .before .before .before .before .before .before .before .before .before .before .before .before .before .before .before .before .before .before .before .before .before .before .before .before .before .before .before .before .before .before .before .args .n)) zero-le)
+returns c =
+    let at-start = c .before .before .before .before .before .before .before .before .before .before .before .before .before .before .before .before .before .before .before .before .before .before .before .before .before .before .before .before .before .before .before .before .before in
+    cc (put-each 4 (at-start .args .out .now) 0 (fields (at-start .args .m) (at-start .args .n)) zero-le)
 
 pub put-header-spec : {M : Type 1} → statement M
 put-header-spec =

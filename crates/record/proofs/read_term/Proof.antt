@@ -56,10 +56,12 @@ signed-requires c κs = search needs
 
 returns : tie.Need-returns
 returns c =
+    let at-word = c .before .before .before in
+    let at-start = at-word .before .before in
     let small : SFits w64 (c .signed .result) = record { sfits = c .signed .ok } in
-    subst (λ (t : Term). At (termsIn (c .before .before .before .before .before .args .s .now) (c .before .before .before .before .before .args .n)) (c .before .before .before .before .before .args .i) t)
-    (sym (term-of (c .before .before .before .word .ensures) (c .before .before .word2 .ensures) (toZ-ofZ small ∙ c .signed .ensures ∙ ap (toZ w64) (c .before .word3 .ensures))))
-    (term-at _ _ _ (c .before .before .before .before .before .pre .1))
+    subst (λ (t : Term). At (termsIn (at-start .args .s .now) (at-start .args .n)) (at-start .args .i) t)
+    (sym (term-of (at-word .word .ensures) (c .before .before .word2 .ensures) (toZ-ofZ small ∙ c .signed .ensures ∙ ap (toZ w64) (c .before .word3 .ensures))))
+    (term-at _ _ _ (at-start .pre .1))
 
 pub read-term-spec : {M : Type 1} → statement M
 read-term-spec =

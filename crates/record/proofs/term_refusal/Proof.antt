@@ -20,7 +20,9 @@ returns-2 c = cre-outside _ _ _ _ _ (sym (c .before .contains2 .ensures) ∙ not
 
 returns-3 : tie.Need-returns-3
 returns-3 c =
-    not-above _ _ _ _ _ (sym (c .before .before .before .before .contains .ensures) ∙ not-false _ (c .before .before .before .if1 .left)) (sym (c .before .before .contains2 .ensures) ∙ not-false _ (c .before .if2 .left))
+    let at-if1 = c .before .before .before in
+    let at-contains = at-if1 .before in
+    not-above _ _ _ _ _ (sym (at-contains .contains .ensures) ∙ not-false _ (at-if1 .if1 .left)) (sym (c .before .before .contains2 .ensures) ∙ not-false _ (c .before .if2 .left))
     (not-true _ (c .if3 .taken))
 
 size-requires : tie.Need-size-requires
@@ -28,12 +30,20 @@ size-requires c κs = search needs
 
 returns-4 : tie.Need-returns-4
 returns-4 c =
-    zero-coefficient _ _ _ _ _ (sym (c .before .before .before .before .before .before .contains .ensures) ∙ not-false _ (c .before .before .before .before .before .if1 .left)) (sym (c .before .before .before .before .contains2 .ensures) ∙ not-false _ (c .before .before .before .if2 .left))
+    let at-if2 = c .before .before .before in
+    let at-contains2 = at-if2 .before in
+    let at-if1 = at-contains2 .before in
+    let at-contains = at-if1 .before in
+    zero-coefficient _ _ _ _ _ (sym (at-contains .contains .ensures) ∙ not-false _ (at-if1 .if1 .left)) (sym (at-contains2 .contains2 .ensures) ∙ not-false _ (at-if2 .if2 .left))
     (not-false _ (c .before .before .if3 .left)) (sym (c .before .size .ensures .0) ∙ c .if4 .taken)
 
 returns-5 : tie.Need-returns-5
 returns-5 c =
-    right-term _ _ _ _ _ (sym (c .before .before .before .before .before .before .contains .ensures) ∙ not-false _ (c .before .before .before .before .before .if1 .left)) (sym (c .before .before .before .before .contains2 .ensures) ∙ not-false _ (c .before .before .before .if2 .left))
+    let at-if2 = c .before .before .before in
+    let at-contains2 = at-if2 .before in
+    let at-if1 = at-contains2 .before in
+    let at-contains = at-if1 .before in
+    right-term _ _ _ _ _ (sym (at-contains .contains .ensures) ∙ not-false _ (at-if1 .if1 .left)) (sym (at-contains2 .contains2 .ensures) ∙ not-false _ (at-if2 .if2 .left))
     (not-false _ (c .before .before .if3 .left)) (λ e. c .if4 .left (c .before .size .ensures .0 ∙ e))
 
 pub term-refusal-spec : {M : Type 1} → statement M
