@@ -1,17 +1,13 @@
 -- The three ways out of `adjoint`: the record's refusal, no room, and the adjoint's record.
-use mathlib.Core.Path.{_≡_, refl, sym, ap, ap₂, _∙_}
-use mathlib.Core.Bool.{Bool, true, false, cond}
+use mathlib.Core.Path.{_≡_, sym, ap, _∙_}
 use mathlib.Core.List.{List, _++_}
 use Prim.Native.Nat.{ℕ, _+_, _*_, _-_, _≤_, _<_}
 use native.Mathlib.Omega.{arith}
-use lib.Dec.{eqb, leb}
 use lib.ListN.{length}
 use borrow.Author.Tests.{ne-eqb, le-leb, lt-leb}
-use Rattle.modes.specs.declared.Term.{Term}
-use Rattle.modes.specs.declared.Written.{Written}
 use Rattle.modes.specs.Answers.{refusal, wrote}
 use Rattle.lent.specs.Bytes.{zeros}
-use Rattle.lent.specs.Outputs.{Output, Gives, refusedOutput, filledOutput}
+use Rattle.lent.specs.Outputs.{Gives, refusedOutput}
 use Rattle.record.specs.Layout.{encode, modesOf, countOf, termsIn, termsOf}
 use Rattle.record.specs.Refusals.{refusalOf, checkedOf}
 use Rattle.record.specs.Canonical.{Canonical}

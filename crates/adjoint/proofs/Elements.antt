@@ -2,10 +2,10 @@
 use mathlib.Core.Path.{_≡_, refl, sym, ap, ap₂, _∙_}
 use mathlib.Core.Bool.{Bool, true, false, cond}
 use mathlib.Core.List.{List, [], _∷_}
-use Prim.Native.Nat.{ℕ, _+_, _^_, _<_}
+use Prim.Native.Nat.{ℕ, _+_}
 use native.Mathlib.Omega.{arith}
 use lib.Dec.{eqb}
-use lib.IntN.{ℤ, pos, negℤ, negℤ-negℤ, _+ℤ_}
+use lib.IntN.{ℤ, pos, negℤ-negℤ, _+ℤ_}
 use borrow.Author.Tests.{eq-eqb, eqb-true, eqb-false}
 use Rattle.modes.specs.Bools.{_⊕_}
 use Rattle.modes.specs.Words.{bit}
@@ -17,8 +17,7 @@ use Rattle.lent.specs.Rows.{Fit}
 use Rattle.products.specs.PhaseRule.{Outcome, gone, went, term}
 use Rattle.products.specs.Operators.{signed, adds, part, element}
 use Rattle.products.specs.Apply.{resultOf}
-use Rattle.products.specs.declared.ApplyResult.{ApplyResult}
-use Rattle.products.specs.declared.ApplyResult.the-variants.{Applied, Zero}
+use Rattle.products.specs.declared.ApplyResult.the-variants.{Applied}
 use Rattle.products.proofs.Applying.{swapped-restores}
 use Rattle.rows.specs.Sums.{sumOf}
 use Rattle.adjoint.specs.Adjoint.{oddPairs, adjointTerm, adjointTerms}

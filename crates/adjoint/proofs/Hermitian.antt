@@ -1,9 +1,8 @@
 -- The Hermitian test: the answer found term by term is that of the bytes.
 use mathlib.Core.Path.{_≡_, refl, sym, ap, _∙_}
-use mathlib.Core.Bool.{Bool, true, false, _&&_, true≢false}
+use mathlib.Core.Bool.{Bool, true, false}
 use mathlib.Core.List.{List}
 use Prim.Native.Nat.{ℕ}
-use lib.Dec.{eqb}
 use borrow.Author.Tests.{ne-eqb}
 use Rattle.modes.specs.Answers.{none}
 use Rattle.record.specs.Numbers.{sameNumbers}
@@ -14,7 +13,7 @@ use Rattle.record.specs.declared.Tested.{Tested}
 use Rattle.record.proofs.Numbers.{same-numbers, numbers-same}
 use Rattle.record.proofs.Accepted.{Accepted, refused}
 use Rattle.record.proofs.Inverse.{Small, encode-decode}
-use Rattle.adjoint.specs.Adjoint.{adjointTerms, adjointBytes}
+use Rattle.adjoint.specs.Adjoint.{adjointBytes}
 use Rattle.adjoint.specs.Hermitian.{Paired, Tells, hermitianOf}
 use Rattle.adjoint.proofs.Among.{paired-same, same-paired}
 use Rattle.adjoint.proofs.Theorems.{bytes-terms}

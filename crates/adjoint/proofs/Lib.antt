@@ -8,4 +8,5 @@ pub mod Theorems
 pub mod Among
 pub mod Hermitian
 pub mod HermitianTheorems
+pub mod Example
 pub mod Unique

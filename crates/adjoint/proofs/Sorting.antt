@@ -7,12 +7,10 @@ use Prim.Native.Nat.{ℕ, zero, suc, _+_, _*_, _-_, _^_, _≤_, _<_}
 use native.Mathlib.Omega.{arith}
 use native.Mathlib.Nat.{mul-suc}
 use native.Mathlib.Numerals.{add-one}
-use lib.ListN.{length, take, drop, getD, length-map, length-append, length-drop}
-use lib.Seq.{drop-nil, drop-cons, take-all, take-add, take-at, take-append-le, drop-append-le}
-use lib.IntN.{ℤ, pos}
-use mir.Syntax.{w64}
+use lib.ListN.{length, take, drop, length-map, length-drop}
+use lib.Seq.{drop-cons, take-all, take-add, take-at, take-append-le, drop-append-le}
+use lib.IntN.{ℤ}
 use Rattle.modes.specs.declared.Term.{Term}
-use Rattle.modes.proofs.Digits.{lt-or-ge}
 use Rattle.lent.specs.Bytes.{num, numAt, put, zeros}
 use Rattle.lent.specs.Every.{Every, none, more}
 use Rattle.lent.specs.Rows.{Fit}
@@ -21,7 +19,7 @@ use Rattle.lent.proofs.Puts.{length-put, put-join}
 use Rattle.rows.specs.Terms.{at, upTo}
 use Rattle.rows.specs.Places.{columnPlaces, termIn}
 use Rattle.rows.specs.Places as places
-use Rattle.rows.specs.Order.{key, Strict, Distinct}
+use Rattle.rows.specs.Order.{key, Distinct}
 use Rattle.rows.specs.Sums.{sumOf}
 use Rattle.rows.specs.Sorted.{Sorted}
 use Rattle.rows.proofs.Keys.{key-words, key-less}
@@ -30,14 +28,14 @@ use Rattle.rows.proofs.UpTo.{every-at}
 use Rattle.rows.proofs.SortedTerms.{sum-kept, every-kept, sorted-strict, columns-around}
 use Rattle.record.specs.Terms.{before, Above, Ascending, empty, above}
 use Rattle.record.specs.Numbers.{numbers}
-use Rattle.record.specs.Layout.{header, columns, encode, countOf, together, termsIn, termsOf}
+use Rattle.record.specs.Layout.{header, columns, encode, together, termsIn}
 use Rattle.record.specs.Canonical.{Nonzero, Canonical}
 use Rattle.record.proofs.Order.{Order, lower, level, order, ordered, above-trans}
 use Rattle.record.proofs.Reading.{length-terms, term-at}
 use Rattle.record.proofs.Inverse.{Small, length-header, length-encode, columns-read, count-read, terms-read, canonical-fit}
 use Rattle.adjoint.specs.Adjoint.{Negatable, adjointTerm, adjointTerms}
 use Rattle.adjoint.proofs.Terms.{is-adjoint, same-size, still-nonzero, each-term, length-adjoint, negatable}
-use Rattle.adjoint.proofs.Writing.{every-drop, take-one-more}
+use Rattle.adjoint.proofs.Writing.{none-at, every-drop, take-one-more}
 
 -- ---- the terms of a record are those at its columns
 
@@ -78,8 +76,7 @@ unfolding at
 at-drop ts i h = drop-cons ts i _ h
 
 earlier-before : (ts us vs : List Term) (t u : Term) (i j : ℕ) → Ascending ts → i < j → drop i ts ≡ t ∷ us → drop j ts ≡ u ∷ vs → before t u ≡ true
-earlier-before [] us vs t u i j empty h e f =
-    let z : _≡_ {A = List Term} [] (t ∷ us) = sym (drop-nil i) ∙ e in let w : _≡_ {A = ℕ} 0 1 = cc in absurd (omega arith)
+earlier-before [] us vs t u i j empty h e f = absurd (none-at i t us e)
 earlier-before (x ∷ ts) us vs t u i zero (above a s) h e f = absurd (omega arith)
 earlier-before (x ∷ ts) us vs t u zero (suc j) (above a s) h e f = let w : x ≡ t = cc in rw w at (every-drop ts vs u j a f)
 earlier-before (x ∷ ts) us vs t u (suc i) (suc j) (above a s) h e f = earlier-before ts us vs t u i j s (omega arith) e f

@@ -1,5 +1,5 @@
 -- The adjoint terms written one after the other, in the record's order.
-use mathlib.Core.Path.{_≡_, refl, sym, ap, _∙_}
+use mathlib.Core.Path.{_≡_, sym, ap, _∙_}
 use mathlib.Core.List.{List, [], _∷_, _++_, map, map-append}
 use Prim.Native.Nat.{ℕ, zero, suc, _+_, _*_, _≤_, _<_}
 use native.Mathlib.Omega.{arith}
@@ -14,15 +14,17 @@ use Rattle.adjoint.specs.Adjoint.{adjointTerm}
 
 -- ---- the term at an index
 
+pub none-at : (i : ℕ) (t : Term) (us : List Term) → drop i [] ≡ t ∷ us → ⊥
+none-at i t us e =
+    let z : _≡_ {A = List Term} [] (t ∷ us) = sym (drop-nil i) ∙ e in let w : _≡_ {A = ℕ} 0 1 = cc in omega arith
+
 pub every-drop : {P : Term → Type 0} (ts us : List Term) (t : Term) (i : ℕ) → Every P ts → drop i ts ≡ t ∷ us → P t
-every-drop [] us t i none e =
-    let z : _≡_ {A = List Term} [] (t ∷ us) = sym (drop-nil i) ∙ e in let w : _≡_ {A = ℕ} 0 1 = cc in absurd (omega arith)
+every-drop [] us t i none e = absurd (none-at i t us e)
 every-drop (x ∷ ts) us t zero (more p ps) e = let w : x ≡ t = cc in rw w at p
 every-drop (x ∷ ts) us t (suc i) (more p ps) e = every-drop ts us t i ps e
 
 take-more : (ts us : List Term) (t : Term) (i : ℕ) → drop i ts ≡ t ∷ us → take (suc i) ts ≡ take i ts ++ (t ∷ [])
-take-more [] us t i e =
-    let z : _≡_ {A = List Term} [] (t ∷ us) = sym (drop-nil i) ∙ e in let w : _≡_ {A = ℕ} 0 1 = cc in absurd (omega arith)
+take-more [] us t i e = absurd (none-at i t us e)
 take-more (x ∷ ts) us t zero e = let w : x ≡ t = cc in rw w
 take-more (x ∷ ts) us t (suc i) e = ap (λ (l : List Term). x ∷ l) (take-more ts us t i e)
 
