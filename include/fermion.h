@@ -40,6 +40,8 @@ void fermion_sub(const uint8_t *a, size_t a_len, const uint8_t *b, size_t b_len,
 void fermion_adjoint(const uint8_t *a, size_t a_len, uint8_t *out, size_t out_len, uint64_t answer[8]);
 
 /* [5] 1 or 0 */
+void fermion_is_hermitian(const uint8_t *a, size_t a_len, uint64_t answer[8]);
+/* [5] 1 or 0 */
 void fermion_conserves_particle_number(const uint8_t *a, size_t a_len, uint64_t answer[8]);
 /* [5] the largest rank */
 void fermion_max_n_body(const uint8_t *a, size_t a_len, uint64_t answer[8]);
@@ -50,6 +52,9 @@ void fermion_active_modes(const uint8_t *a, size_t a_len, uint64_t answer[8]);
  * bytes; both 0 for the empty part: no such word, a word outside m modes, or a record that isn't accepted. answer[0] to
  * answer[4] are 0. */
 void fermion_block(const uint8_t *a, size_t a_len, uint64_t ann, uint64_t answer[8]);
+
+/* [5] the exact element, signed (cast it to int64_t). 12: operand 3 for the bra, 4 for the ket, place 0. */
+void fermion_element(const uint8_t *a, size_t a_len, uint64_t bra, uint64_t ket, uint64_t answer[8]);
 
 #ifdef __cplusplus
 }

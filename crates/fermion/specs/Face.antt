@@ -3,6 +3,8 @@ use mathlib.Core.Path.{_≡_}
 use mathlib.Core.Bool.{cond}
 use mathlib.Core.List.{List, [], _∷_}
 use Prim.Native.Nat.{ℕ}
+use mir.Syntax.{w64}
+use mir.Val.{ofZ}
 use Rattle.modes.specs.Answers.{none}
 use Rattle.modes.specs.declared.Refusal.{Refusal}
 use Rattle.modes.specs.declared.Written.{Written}
@@ -13,6 +15,7 @@ use Rattle.record.specs.declared.Checked.{Checked}
 use Rattle.record.specs.declared.Tested.{Tested}
 use Rattle.record.specs.declared.Measured.{Measured}
 use Rattle.record.specs.declared.Stretch.{Stretch}
+use Rattle.mat_elem.specs.declared.Exact.{Exact}
 
 -- a call that fills no output: its refusal, and its own three values
 abbrev pub answered : Refusal → ℕ → ℕ → ℕ → List ℕ
@@ -41,6 +44,10 @@ measuredAnswer m = answered (m .refusal) (m .value) 0 0
 -- a stretch of the record's bytes: its offset and its length. This call gives no refusal.
 abbrev pub stretchAnswer : Stretch → List ℕ
 stretchAnswer s = values (s .start) (s .len) 0
+
+-- an exact element, the 64 bits of the signed number
+abbrev pub elementAnswer : Exact → List ℕ
+elementAnswer e = answered (e .refusal) (ofZ w64 (e .value)) 0 0
 
 -- a call that fills an output: the refusal, the length and the branches
 abbrev pub writtenAnswer : Written → List ℕ

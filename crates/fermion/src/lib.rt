@@ -6,10 +6,13 @@ ghost use Rattle.products.specs.Apply.{applied};
 ghost use Rattle.products.specs.Product.{multiplied};
 ghost use Rattle.lincomb.specs.Sums.{added, subtracted};
 ghost use Rattle.adjoint.specs.Adjoint.{adjointed};
+ghost use Rattle.adjoint.specs.Hermitian.{hermitianOf};
+ghost use Rattle.mat_elem.specs.Elements.{elementOf};
 ghost use Rattle.record.specs.Refusals.{checkedOf};
 ghost use Rattle.record.specs.Blocks.{blockOf};
 ghost use Rattle.record.specs.Figures.{conservesOf, maxNBodyOf, activeModesOf};
-ghost use Rattle.fermion.specs.Face.{values, applyAnswer, writtenAnswer, answered, checkedAnswer, testedAnswer, measuredAnswer, stretchAnswer, Fills};
+ghost use Rattle.fermion.specs.Face.{values, applyAnswer, writtenAnswer, answered, checkedAnswer, testedAnswer, measuredAnswer, stretchAnswer, elementAnswer, Fills};
+use mat_elem::Exact;
 use modes::Refusal;
 use modes::Written;
 use products::ApplyResult;
@@ -40,6 +43,12 @@ fn measured(m: Measured) -> [u64; 8]
     ensures { λ a. ⌜ a ≡ measuredAnswer m ⌝ }
 {
     answer_of(m.refusal, m.value, 0, 0)
+}
+
+fn exact(e: Exact) -> [u64; 8]
+    ensures { λ a. ⌜ a ≡ elementAnswer e ⌝ }
+{
+    answer_of(e.refusal, lent::bits(e.value), 0, 0)
 }
 
 // the answer of a call that fills an output
@@ -122,6 +131,13 @@ pub extern "C" fn fermion_adjoint(a: &[u8], out: &mut [u8], answer: &mut [u64; 8
 }
 
 #[no_mangle]
+pub extern "C" fn fermion_is_hermitian(a: &[u8], answer: &mut [u64; 8])
+    ensures { λ _. ⌜ now (answer .exit) ≡ testedAnswer (hermitianOf (now (a .entry))) ⌝ }
+{
+    *answer = tested(adjoint::is_hermitian(a));
+}
+
+#[no_mangle]
 pub extern "C" fn fermion_conserves_particle_number(a: &[u8], answer: &mut [u64; 8])
     ensures { λ _. ⌜ now (answer .exit) ≡ testedAnswer (conservesOf (now (a .entry))) ⌝ }
 {
@@ -148,4 +164,11 @@ pub extern "C" fn fermion_block(a: &[u8], ann: u64, answer: &mut [u64; 8])
 {
     let b = record::block_bounds(a, ann);
     *answer = [0, 0, 0, 0, 0, b.start as u64, b.len as u64, 0];
+}
+
+#[no_mangle]
+pub extern "C" fn fermion_element(a: &[u8], bra: u64, ket: u64, answer: &mut [u64; 8])
+    ensures { λ _. ⌜ now (answer .exit) ≡ elementAnswer (elementOf (now (a .entry)) bra ket) ⌝ }
+{
+    *answer = exact(mat_elem::element(a, bra, ket));
 }

@@ -90,3 +90,14 @@ high-is x h k = toZ-ofZ (high-fits x h k) ∙ rw (high x h k, less-one, le-ltb x
 pub abs-fits : (z : ℤ) → natAbs z < 2 ^ 63 → SFits w64 z
 abs-fits (pos n) h = record { sfits = h }
 abs-fits (negsuc n) h = record { sfits = omega arith }
+
+-- a sum is no further from zero than its parts together
+difference-at : (a b : ℕ) (t : Bool) → ltb a b ≡ t → natAbs (cond t (negsuc (b - suc a)) (pos (a - b))) ≤ a + b
+difference-at a b true e = omega (arith, ltb-true a b e)
+difference-at a b false e = omega arith
+
+pub abs-sum : (x y : ℤ) → natAbs (x +ℤ y) ≤ natAbs x + natAbs y
+abs-sum (pos a) (pos b) = omega arith
+abs-sum (pos a) (negsuc b) = difference-at a (suc b) (ltb a (suc b)) refl
+abs-sum (negsuc a) (pos b) = let h = difference-at b (suc a) (ltb b (suc a)) refl in omega arith
+abs-sum (negsuc a) (negsuc b) = omega arith

@@ -57,6 +57,16 @@ before-trans t u v e f = ordered t v (go (order t u e) (order u v f))
     go (level p h) (lower k) = lower (omega arith)
     go (level p h) (level q k) = level (omega arith) (omega arith)
 
+-- not both ways
+pub before-one-way : (t u : Term) → before t u ≡ true → before u t ≡ true → ⊥
+before-one-way t u e f = go (order t u e) (order u t f)
+  where
+    go : Order t u → Order u t → ⊥
+    go (lower h) (lower k) = omega arith
+    go (lower h) (level p k) = omega arith
+    go (level p h) (lower k) = omega arith
+    go (level p h) (level q k) = omega arith
+
 pub above-trans : (t u : Term) (ts : List Term) → before t u ≡ true → Above u ts → Above t ts
 above-trans t u [] e none = none
 above-trans t u (v ∷ ts) e (more f h) = more (before-trans t u v e f) (above-trans t u ts e h)

@@ -1,0 +1,79 @@
+-- A sum over the terms of a record, term by term: what is summed and what is left make the element, within the weight.
+use mathlib.Core.Path.{_≡_, refl, sym, ap, ap₂, _∙_, subst}
+use mathlib.Core.Bool.{Bool, true, false, cond}
+use mathlib.Core.List.{List, [], _∷_}
+use Prim.Native.Nat.{ℕ, zero, suc, _+_, _-_, _^_, _≤_, _<_, zero-le}
+use native.Mathlib.Nat.{zero-add}
+use native.Mathlib.Omega.{arith}
+use lib.Dec.{eqb}
+use lib.IntN.{ℤ, pos, negsuc, natAbs, _+ℤ_, +ℤ-idl, +ℤ-idr, +ℤ-assoc}
+use lib.ListN.{drop}
+use borrow.Author.Tests.{eq-eqb, ne-eqb}
+use Rattle.modes.specs.declared.Term.{Term}
+use Rattle.modes.specs.declared.Sign.{Sign}
+use Rattle.products.specs.PhaseRule.{Outcome, gone, went, term}
+use Rattle.products.specs.Operators.{signed, adds, part, element}
+use Rattle.products.specs.Apply.{resultOf, applied}
+use Rattle.products.specs.declared.ApplyResult.{ApplyResult}
+use Rattle.products.specs.declared.ApplyResult.the-variants.{Applied, Zero}
+use Rattle.products.proofs.Walks.{abs-signed}
+use Rattle.record.specs.Terms.{weight}
+use Rattle.record.specs.Reading.{At}
+use Rattle.lent.proofs.SignedNumbers.{abs-sum}
+
+-- ---- one term
+
+-- what an outcome adds, read off the answer of `apply_op_ket_u64`
+gone-adds : (bra : ℕ) (z : ℤ) (o : Outcome) → Zero ≡ resultOf o → pos 0 ≡ adds bra z o
+gone-adds bra z gone e = refl
+gone-adds bra z (went w s) e = let q : _≡_ {A = ℕ} 0 1 = cc in absurd (omega arith)
+
+went-adds : (bra word : ℕ) (sign : Sign) (z : ℤ) (o : Outcome) → Applied word sign ≡ resultOf o → adds bra z o ≡ cond (eqb word bra) (signed (sign .0) z) (pos 0)
+went-adds bra word sign z gone e = let q : _≡_ {A = ℕ} 0 1 = cc in absurd (omega arith)
+went-adds bra word sign z (went w s) e =
+    let p : w ≡ word = cc in
+    let q : sign ≡ record { 0 = s } = cc in
+    ap₂ (λ (x : ℕ) (b : Bool). cond (eqb x bra) (signed b z) (pos 0)) p (ap (λ (x : Sign). x .0) (sym q))
+
+module _ (bra ket : ℕ) (t : Term) where
+  pub part-zero : Zero ≡ applied (t .cre) (t .ann) ket → pos 0 ≡ part bra ket t
+  part-zero e = gone-adds bra (t .coeff) (term (t .cre) (t .ann) (went ket false)) e
+
+  pub part-other : (word : ℕ) (sign : Sign) → Applied word sign ≡ applied (t .cre) (t .ann) ket → (word ≡ bra → ⊥) → pos 0 ≡ part bra ket t
+  part-other word sign e n = sym (went-adds bra word sign (t .coeff) (term (t .cre) (t .ann) (went ket false)) e ∙ rw (ne-eqb word bra n))
+
+  pub part-here : (word : ℕ) (sign : Sign) → Applied word sign ≡ applied (t .cre) (t .ann) ket → word ≡ bra → signed (sign .0) (t .coeff) ≡ part bra ket t
+  part-here word sign e h = sym (went-adds bra word sign (t .coeff) (term (t .cre) (t .ann) (went ket false)) e ∙ rw (eq-eqb word bra h))
+
+-- ---- the sum
+
+pub record Summed (bra ket : ℕ) (ts : List Term) (z : ℤ) (i : ℕ) : Type 0 where
+  pub rest : z +ℤ element bra ket (drop i ts) ≡ element bra ket ts
+  pub light : natAbs z + weight (drop i ts) ≤ 2 ^ 60
+
+module _ (bra ket : ℕ) (ts : List Term) where
+  pub sum-starts : weight ts ≤ 2 ^ 60 → Summed bra ket ts (pos 0) 0
+  sum-starts h = record { rest = +ℤ-idl (element bra ket ts); light = rw (zero-add (weight ts)) h }
+
+  front : (i : ℕ) (t : Term) → At ts i t → (element bra ket (drop i ts) ≡ part bra ket t +ℤ element bra ket (drop (i + 1) ts)) × (weight (drop i ts) ≡ natAbs (t .coeff) + weight (drop (i + 1) ts))
+  unfolding element weight
+  front i t e = (ap (element bra ket) e, ap weight e)
+
+  pub sum-goes : (z p s : ℤ) (i : ℕ) (t : Term) → At ts i t → Summed bra ket ts z i → p ≡ part bra ket t → natAbs p ≤ natAbs (t .coeff) → s ≡ z +ℤ p
+      → Summed bra ket ts s (i + 1)
+  sum-goes z p s i t e g ep small es = record {
+    rest =
+        ap (λ (x : ℤ). x +ℤ element bra ket (drop (i + 1) ts)) es ∙ +ℤ-assoc z p (element bra ket (drop (i + 1) ts))
+        ∙ ap (λ (x : ℤ). z +ℤ x) (ap (λ (x : ℤ). x +ℤ element bra ket (drop (i + 1) ts)) ep ∙ sym (front i t e .0)) ∙ g .rest;
+    light = subst (λ (x : ℤ). natAbs x + weight (drop (i + 1) ts) ≤ 2 ^ 60) (sym es) (omega (arith, abs-sum z p, front i t e .1, g .light));
+  }
+
+  pub sum-fits : (z p : ℤ) (i : ℕ) (t : Term) → At ts i t → Summed bra ket ts z i → natAbs p ≤ natAbs (t .coeff) → natAbs z + natAbs p < 2 ^ 63
+  sum-fits z p i t e g small = omega (arith, front i t e .1, g .light)
+
+  pub term-light : (z : ℤ) (i : ℕ) (t : Term) → At ts i t → Summed bra ket ts z i → natAbs (t .coeff) < 2 ^ 63
+  term-light z i t e g = omega (arith, front i t e .1, g .light)
+
+  pub sum-ends : (z : ℤ) (i : ℕ) → drop i ts ≡ [] → Summed bra ket ts z i → z ≡ element bra ket ts
+  unfolding element
+  sum-ends z i e g = sym (+ℤ-idr z) ∙ ap (λ (us : List Term). z +ℤ element bra ket us) (sym e) ∙ g .rest

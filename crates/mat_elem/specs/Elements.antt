@@ -1,0 +1,27 @@
+-- The exact element of a record at (bra, ket): the operator's refusals, then 12 for the bra, then 12 for the ket.
+use mathlib.Core.Bool.{cond}
+use mathlib.Core.List.{List}
+use Prim.Native.Nat.{ℕ, _^_}
+use lib.Dec.{eqb, ltb}
+use lib.IntN.{pos}
+use Rattle.modes.specs.Answers.{refusal, none}
+use Rattle.modes.specs.declared.Refusal.{Refusal}
+use Rattle.products.specs.Operators.{element}
+use Rattle.record.specs.Layout.{modesOf, termsOf}
+use Rattle.record.specs.Refusals.{orElse, refusalOf}
+use Rattle.mat_elem.specs.declared.Exact.{Exact}
+
+-- 12 where the word holds a mode outside m
+abbrev pub wordRefusal : ℕ → ℕ → ℕ → ℕ → Refusal
+wordRefusal m operand place w = cond (ltb w (2 ^ m)) none (refusal 12 operand place)
+
+unfoldable pub elementRefusal : List ℕ → ℕ → ℕ → Refusal
+elementRefusal a bra ket = orElse (refusalOf 1 a) (orElse (wordRefusal (modesOf a) 3 0 bra) (wordRefusal (modesOf a) 4 0 ket))
+
+abbrev pub refusedElement : Refusal → Exact
+refusedElement r = record { refusal = r; value = pos 0 }
+
+unfoldable pub elementOf : List ℕ → ℕ → ℕ → Exact
+elementOf a bra ket =
+    let found : Exact = record { refusal = none; value = element bra ket (termsOf a) } in
+    cond (eqb ((elementRefusal a bra ket) .number) 0) found (refusedElement (elementRefusal a bra ket))
