@@ -1,11 +1,10 @@
 -- Rows read one by one, in order: those that are done, the one in hand, and what both make of the rows read.
 use mathlib.Core.Path.{_≡_, refl, sym, ap, ap₂, _∙_, subst}
-use mathlib.Core.Bool.{Bool, true, false, cond, _&&_}
+use mathlib.Core.Bool.{true}
 use mathlib.Core.List.{List, [], _∷_, _++_}
 use mathlib.Core.Logic.{_⊎_, inl, inr}
 use Prim.Native.Nat.{ℕ, _+_, _≤_, _<_, _^_}
 use native.Mathlib.Omega.{arith}
-use lib.Dec.{eqb}
 use lib.IntN.{ℤ, pos, natAbs, _+ℤ_, +ℤ-idl, +ℤ-idr, +ℤ-assoc}
 use borrow.Author.Tests.{eq-eqb}
 use mir.Syntax.{w64}
@@ -24,6 +23,7 @@ use Rattle.record.proofs.Order.{lower, level, ordered}
 use Rattle.record.proofs.Coefficients.{coeff-cons, coeff-append}
 use Rattle.joins.specs.KeyWeights.{keyWeight}
 use Rattle.joins.specs.Steps.{Ended, dropped, stored}
+use Rattle.joins.proofs.Additive.{of, additive-coeff}
 use Rattle.joins.proofs.Ends.{Under, every-end, ascending-end, under-trans, under-same, under-none}
 use Rattle.joins.proofs.KeyWeights.{coeff-below, weight-end}
 
@@ -45,7 +45,7 @@ pub record InHand (ts : List Term) (x : Term) (us : List Term) : Type 0 where
 
 -- two terms that have the same words, as one
 abbrev pub joint : Term → Term → Term
-joint x y = record { cre = x .cre; ann = x .ann; coeff = x .coeff +ℤ y .coeff }
+joint x y = of (x .cre) (x .ann) (x .coeff +ℤ y .coeff)
 
 coeff-end : (c a : ℕ) (ts : List Term) (x : Term) → coeffOf c a (ts ++ (x ∷ [])) ≡ coeffOf c a ts +ℤ coeffIn c a x
 unfolding coeffOf
@@ -55,18 +55,11 @@ own-words : (t x : Term) → t .ann ≡ x .ann → t .cre ≡ x .cre → coeffIn
 own-words t x p q = rw (eq-eqb (t .ann) (x .ann) p, eq-eqb (t .cre) (x .cre) q)
 
 joint-coeff : (c a : ℕ) (x y : Term) → y .ann ≡ x .ann → y .cre ≡ x .cre → coeffIn c a (joint x y) ≡ coeffIn c a x +ℤ coeffIn c a y
-joint-coeff c a x y p q = rw (p, q) (go (eqb (x .ann) a && eqb (x .cre) c))
-  where
-    go : (b : Bool) → cond b (x .coeff +ℤ y .coeff) (pos 0) ≡ cond b (x .coeff) (pos 0) +ℤ cond b (y .coeff) (pos 0)
-    go true = refl
-    go false = refl
+joint-coeff c a x y p q =
+    additive-coeff c a .both (x .cre) (x .ann) (x .coeff) (y .coeff) ∙ ap (λ (t : Term). coeffIn c a x +ℤ coeffIn c a t) (term-of (sym p) (sym q) refl)
 
 zero-coeff : (c a : ℕ) (x : Term) → x .coeff ≡ pos 0 → coeffIn c a x ≡ pos 0
-zero-coeff c a x e = rw e (go (eqb (x .ann) a && eqb (x .cre) c))
-  where
-    go : (b : Bool) → cond b (pos 0) (pos 0) ≡ pos 0
-    go true = refl
-    go false = refl
+zero-coeff c a x e = ap (λ (z : ℤ). coeffIn c a (of (x .cre) (x .ann) z)) e ∙ additive-coeff c a .none (x .cre) (x .ann)
 
 pub first-in-hand : (x : Term) → Fit x → InHand [] x (x ∷ [])
 unfolding coeffOf

@@ -1,3 +1,4 @@
+pub mod Additive
 pub mod KeyWeights
 pub mod Ends
 pub mod InHand
@@ -5,3 +6,5 @@ pub mod Closing
 pub mod Meeting
 pub mod Joining
 pub mod Sorting
+pub mod Unique
+pub mod Elements

@@ -20,14 +20,10 @@ use Rattle.record.specs.Coefficients.{coeffIn, coeffOf}
 use Rattle.joins.specs.KeyWeights.{keyWeight, Light}
 use Rattle.joins.specs.Collected.{Collected}
 use Rattle.joins.specs.Steps.{InOrder}
+use Rattle.joins.proofs.Additive.{coeff-sum}
 use Rattle.joins.proofs.Closing.{same-from}
 
--- coefficient and weight are sums over the terms
-coeff-sum : (cre ann : ℕ) (ts : List Term) → sumOf (coeffIn cre ann) ts ≡ coeffOf cre ann ts
-unfolding sumOf coeffOf
-coeff-sum cre ann [] = refl
-coeff-sum cre ann (t ∷ ts) = ap (λ (z : ℤ). coeffIn cre ann t +ℤ z) (coeff-sum cre ann ts)
-
+-- the weight is a sum over the terms
 abbrev magnitude : ℕ → ℕ → Term → ℤ
 magnitude cre ann t = pos (natAbs (coeffIn cre ann t))
 
