@@ -1,9 +1,9 @@
 -- Rows read one by one, in order: those that are done, the one in hand, and what both make of the rows read.
-use mathlib.Core.Path.{_≡_, refl, sym, ap, ap₂, _∙_, subst}
+use mathlib.Core.Path.{_≡_, refl, sym, ap, _∙_, subst}
 use mathlib.Core.Bool.{true}
 use mathlib.Core.List.{List, [], _∷_, _++_}
 use mathlib.Core.Logic.{_⊎_, inl, inr}
-use Prim.Native.Nat.{ℕ, _+_, _≤_, _<_, _^_}
+use Prim.Native.Nat.{ℕ, _+_, _≤_, _<_}
 use native.Mathlib.Omega.{arith}
 use lib.IntN.{ℤ, pos, natAbs, _+ℤ_, +ℤ-idl, +ℤ-idr, +ℤ-assoc}
 use borrow.Author.Tests.{eq-eqb}
@@ -13,28 +13,28 @@ use Rattle.modes.specs.declared.Term.{Term}
 use Rattle.lent.specs.Every.{Every, none}
 use Rattle.lent.specs.Rows.{Fit}
 use Rattle.lent.proofs.RowLaws.{term-of}
-use Rattle.rows.specs.Order.{key, keyOf}
+use Rattle.rows.specs.Order.{key}
 use Rattle.rows.proofs.Choices.{less-or}
 use Rattle.rows.proofs.Keys.{key-words, key-less}
 use Rattle.record.specs.Terms.{before, Ascending, empty}
 use Rattle.record.specs.Canonical.{Nonzero}
 use Rattle.record.specs.Coefficients.{coeffIn, coeffOf}
 use Rattle.record.proofs.Order.{lower, level, ordered}
-use Rattle.record.proofs.Coefficients.{coeff-cons, coeff-append}
+use Rattle.record.proofs.Coefficients.{coeff-append}
 use Rattle.joins.specs.KeyWeights.{keyWeight}
 use Rattle.joins.specs.Steps.{Ended, dropped, stored}
 use Rattle.joins.proofs.Additive.{of, additive-coeff}
 use Rattle.joins.proofs.Ends.{Under, every-end, ascending-end, under-trans, under-same, under-none}
 use Rattle.joins.proofs.KeyWeights.{coeff-below, weight-end}
 
--- ts is what us make together
+-- the rows ts are done, and are what the rows us make together
 pub record Done (ts us : List Term) : Type 0 where
   pub ascending : Ascending ts
   pub nonzero : Every Nonzero ts
   pub fit : Every Fit ts
   pub coeff : (c a : ℕ) → coeffOf c a ts ≡ coeffOf c a us
 
--- ts and x are
+-- the rows ts are done and x is in hand, and with it they are what the rows us make together
 pub record InHand (ts : List Term) (x : Term) (us : List Term) : Type 0 where
   pub ascending : Ascending ts
   pub under : Under x ts

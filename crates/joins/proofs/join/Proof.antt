@@ -61,7 +61,8 @@ returns-2 c =
     let s = c .before .before .before .before .before .before .before .before .before .before .before in
     let p = c .before .before .before .before .before .before .loop in
     let w = c .before .before .close in
-    joined-all (s .args .n) (p .i) (s .args .work .now) (p .work) (w .last .0) (p .o .place) (w .result) (p .o .row) (p .inv) (c .before .before .before .before .before .loop-test .left) (w .ensures)
+    joined-all (s .args .n) (p .i) (s .args .work .now) (p .work) (w .last .0) (p .o .place) (w .result) (p .o .row) (p .inv)
+    (c .before .before .before .before .before .loop-test .left) (w .ensures)
 
 pub join-spec : {M : Type 1} → statement M
 join-spec =
