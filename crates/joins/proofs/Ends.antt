@@ -1,0 +1,48 @@
+-- Lists of terms with one term more at the end.
+use mathlib.Core.Path.{_≡_, refl}
+use mathlib.Core.Bool.{true, and-false}
+use mathlib.Core.List.{List, [], _∷_, _++_}
+use native.Mathlib.Omega.{arith}
+use lib.Dec.{eqb}
+use lib.IntN.{pos}
+use borrow.Author.Tests.{ne-eqb}
+use Rattle.modes.specs.declared.Term.{Term}
+use Rattle.lent.specs.Every.{Every, none, more}
+use Rattle.record.specs.Terms.{before, Ascending, empty, above}
+use Rattle.record.specs.Coefficients.{coeffIn, coeffOf}
+use Rattle.record.proofs.Order.{Order, lower, level, order, before-trans}
+
+-- every term of ts stands before x
+abbrev pub Under : Term → List Term → Type 0
+Under x ts = Every (λ t. before t x ≡ true) ts
+
+pub every-end : (P : Term → Type 0) (ts : List Term) (x : Term) → Every P ts → P x → Every P (ts ++ (x ∷ []))
+every-end P [] x none p = more p none
+every-end P (t ∷ ts) x (more q e) p = more q (every-end P ts x e p)
+
+pub ascending-end : (ts : List Term) (x : Term) → Ascending ts → Under x ts → Ascending (ts ++ (x ∷ []))
+ascending-end [] x empty none = above none empty
+ascending-end (t ∷ ts) x (above h a) (more b u) = above (every-end (λ v. before t v ≡ true) ts x h b) (ascending-end ts x a u)
+
+pub under-trans : (ts : List Term) (x y : Term) → Under x ts → before x y ≡ true → Under y ts
+under-trans [] x y none b = none
+under-trans (t ∷ ts) x y (more a u) b = more (before-trans t x y a b) (under-trans ts x y u b)
+
+-- only the words decide
+pub under-same : (ts : List Term) (x y : Term) → x .ann ≡ y .ann → x .cre ≡ y .cre → Under x ts → Under y ts
+unfolding before
+under-same [] x y p q none = none
+under-same (t ∷ ts) x y p q (more b u) = more (rw (p, q) at b) (under-same ts x y p q u)
+
+earlier-words : (t x : Term) → before t x ≡ true → coeffIn (x .cre) (x .ann) t ≡ pos 0
+earlier-words t x e = go (order t x e)
+  where
+    go : Order t x → coeffIn (x .cre) (x .ann) t ≡ pos 0
+    go (lower h) = rw (ne-eqb (t .ann) (x .ann) (λ q. omega arith))
+    go (level q h) = rw (ne-eqb (t .cre) (x .cre) (λ p. omega arith), and-false (eqb (t .ann) (x .ann)))
+
+-- terms that stand before x have other words than x
+pub under-none : (ts : List Term) (x : Term) → Under x ts → coeffOf (x .cre) (x .ann) ts ≡ pos 0
+unfolding coeffOf
+under-none [] x none = refl
+under-none (t ∷ ts) x (more b u) = rw (earlier-words t x b, under-none ts x u)

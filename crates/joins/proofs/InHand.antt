@@ -1,0 +1,143 @@
+-- Rows read one by one, in order: those that are done, the one in hand, and what both make of the rows read.
+use mathlib.Core.Path.{_≡_, refl, sym, ap, _∙_, subst}
+use mathlib.Core.Bool.{true}
+use mathlib.Core.List.{List, [], _∷_, _++_}
+use mathlib.Core.Logic.{_⊎_, inl, inr}
+use Prim.Native.Nat.{ℕ, _+_, _≤_, _<_}
+use native.Mathlib.Omega.{arith}
+use lib.IntN.{ℤ, pos, natAbs, _+ℤ_, +ℤ-idl, +ℤ-idr, +ℤ-assoc}
+use borrow.Author.Tests.{eq-eqb}
+use mir.Syntax.{w64}
+use mir.Val.{SFits}
+use Rattle.modes.specs.declared.Term.{Term}
+use Rattle.lent.specs.Every.{Every, none}
+use Rattle.lent.specs.Rows.{Fit}
+use Rattle.lent.proofs.RowLaws.{term-of}
+use Rattle.rows.specs.Order.{key}
+use Rattle.rows.proofs.Choices.{less-or}
+use Rattle.rows.proofs.Keys.{key-words, key-less}
+use Rattle.record.specs.Terms.{before, Ascending, empty}
+use Rattle.record.specs.Canonical.{Nonzero}
+use Rattle.record.specs.Coefficients.{coeffIn, coeffOf}
+use Rattle.record.proofs.Order.{lower, level, ordered}
+use Rattle.record.proofs.Coefficients.{coeff-append}
+use Rattle.joins.specs.KeyWeights.{keyWeight}
+use Rattle.joins.specs.Steps.{Ended, dropped, stored}
+use Rattle.joins.proofs.Additive.{of, additive-coeff}
+use Rattle.joins.proofs.Ends.{Under, every-end, ascending-end, under-trans, under-same, under-none}
+use Rattle.joins.proofs.KeyWeights.{coeff-below, weight-end}
+
+-- the rows ts are done, and are what the rows us make together
+pub record Done (ts us : List Term) : Type 0 where
+  pub ascending : Ascending ts
+  pub nonzero : Every Nonzero ts
+  pub fit : Every Fit ts
+  pub coeff : (c a : ℕ) → coeffOf c a ts ≡ coeffOf c a us
+
+-- the rows ts are done and x is in hand, and with it they are what the rows us make together
+pub record InHand (ts : List Term) (x : Term) (us : List Term) : Type 0 where
+  pub ascending : Ascending ts
+  pub under : Under x ts
+  pub nonzero : Every Nonzero ts
+  pub fit : Every Fit ts
+  pub own : Fit x
+  pub coeff : (c a : ℕ) → coeffOf c a ts +ℤ coeffIn c a x ≡ coeffOf c a us
+
+-- two terms that have the same words, as one
+abbrev pub joint : Term → Term → Term
+joint x y = of (x .cre) (x .ann) (x .coeff +ℤ y .coeff)
+
+coeff-end : (c a : ℕ) (ts : List Term) (x : Term) → coeffOf c a (ts ++ (x ∷ [])) ≡ coeffOf c a ts +ℤ coeffIn c a x
+unfolding coeffOf
+coeff-end c a ts x = coeff-append c a ts (x ∷ []) ∙ ap (λ (z : ℤ). coeffOf c a ts +ℤ z) (+ℤ-idr (coeffIn c a x))
+
+own-words : (t x : Term) → t .ann ≡ x .ann → t .cre ≡ x .cre → coeffIn (x .cre) (x .ann) t ≡ t .coeff
+own-words t x p q = rw (eq-eqb (t .ann) (x .ann) p, eq-eqb (t .cre) (x .cre) q)
+
+joint-coeff : (c a : ℕ) (x y : Term) → y .ann ≡ x .ann → y .cre ≡ x .cre → coeffIn c a (joint x y) ≡ coeffIn c a x +ℤ coeffIn c a y
+joint-coeff c a x y p q =
+    additive-coeff c a .both (x .cre) (x .ann) (x .coeff) (y .coeff) ∙ ap (λ (t : Term). coeffIn c a x +ℤ coeffIn c a t) (term-of (sym p) (sym q) refl)
+
+zero-coeff : (c a : ℕ) (x : Term) → x .coeff ≡ pos 0 → coeffIn c a x ≡ pos 0
+zero-coeff c a x e = ap (λ (z : ℤ). coeffIn c a (of (x .cre) (x .ann) z)) e ∙ additive-coeff c a .none (x .cre) (x .ann)
+
+pub first-in-hand : (x : Term) → Fit x → InHand [] x (x ∷ [])
+unfolding coeffOf
+first-in-hand x f = record {
+  ascending = empty;
+  under = none;
+  nonzero = none;
+  fit = none;
+  own = f;
+  coeff = λ c a. +ℤ-idl (coeffIn c a x) ∙ sym (+ℤ-idr (coeffIn c a x));
+}
+
+-- a row of other words that is not below x is above it
+pub comes-after : (x y : Term) → Fit x → Fit y → (y .ann ≡ x .ann → y .cre ≡ x .cre → ⊥) → key x ≤ key y → before x y ≡ true
+comes-after x y f g n h = go (less-or (key x) (key y))
+  where
+    go : (key x < key y) ⊎ (key y ≤ key x) → before x y ≡ true
+    go (inl l) = by (key-less (x .ann) (x .cre) (y .ann) (y .cre) (f .cre) (g .cre) l)
+      where
+        by : (x .ann < y .ann) ⊎ ((x .ann ≡ y .ann) × (x .cre < y .cre)) → before x y ≡ true
+        by (inl p) = ordered x y (lower p)
+        by (inr p) = ordered x y (level (p .0) (p .1))
+    go (inr l) =
+        let e : key x ≡ key y = omega arith in
+        let w = key-words (x .ann) (x .cre) (y .ann) (y .cre) (f .cre) (g .cre) e in
+        absurd (n (sym (w .0)) (sym (w .1)))
+
+module _ (ts us : List Term) (x : Term) (s : InHand ts x us) where
+  pub closed-done : (vs : List Term) → Ended ts x vs → Done vs us
+  closed-done vs (dropped z e) = subst (λ (w : List Term). Done w us) (sym e) record {
+    ascending = s .ascending;
+    nonzero = s .nonzero;
+    fit = s .fit;
+    coeff = λ c a. sym (+ℤ-idr (coeffOf c a ts)) ∙ ap (λ (w : ℤ). coeffOf c a ts +ℤ w) (sym (zero-coeff c a x z)) ∙ s .coeff c a;
+  }
+  closed-done vs (stored z e) = subst (λ (w : List Term). Done w us) (sym e) record {
+    ascending = ascending-end ts x (s .ascending) (s .under);
+    nonzero = every-end Nonzero ts x (s .nonzero) z;
+    fit = every-end Fit ts x (s .fit) (s .own);
+    coeff = λ c a. coeff-end c a ts x ∙ s .coeff c a;
+  }
+
+  closed-under : (vs : List Term) (y : Term) → Ended ts x vs → before x y ≡ true → Under y vs
+  closed-under vs y (dropped z e) b = subst (Under y) (sym e) (under-trans ts x y (s .under) b)
+  closed-under vs y (stored z e) b = subst (Under y) (sym e) (every-end (λ t. before t y ≡ true) ts x (under-trans ts x y (s .under) b) b)
+
+  -- the next row has other words
+  pub next-in-hand : (vs : List Term) (y : Term) → Ended ts x vs → before x y ≡ true → Fit y → InHand vs y (us ++ (y ∷ []))
+  next-in-hand vs y e b f = let d = closed-done vs e in record {
+    ascending = d .ascending;
+    under = closed-under vs y e b;
+    nonzero = d .nonzero;
+    fit = d .fit;
+    own = f;
+    coeff = λ c a. ap (λ (z : ℤ). z +ℤ coeffIn c a y) (d .coeff c a) ∙ sym (coeff-end c a us y);
+  }
+
+  -- the next row has the same words
+  pub joined-in-hand : (y : Term) → y .ann ≡ x .ann → y .cre ≡ x .cre → SFits w64 (x .coeff +ℤ y .coeff) → InHand ts (joint x y) (us ++ (y ∷ []))
+  joined-in-hand y p q f = record {
+    ascending = s .ascending;
+    under = under-same ts x (joint x y) refl refl (s .under);
+    nonzero = s .nonzero;
+    fit = s .fit;
+    own = record { ann = s .own .ann; cre = s .own .cre; coeff = f };
+    coeff = λ c a. ap (λ (z : ℤ). coeffOf c a ts +ℤ z) (joint-coeff c a x y p q)
+        ∙ sym (+ℤ-assoc (coeffOf c a ts) (coeffIn c a x) (coeffIn c a y))
+        ∙ ap (λ (z : ℤ). z +ℤ coeffIn c a y) (s .coeff c a) ∙ sym (coeff-end c a us y);
+  }
+
+  -- the row in hand is the whole coefficient of its words
+  hand-coeff : x .coeff ≡ coeffOf (x .cre) (x .ann) us
+  hand-coeff =
+      sym (own-words x x refl refl) ∙ sym (+ℤ-idl (coeffIn (x .cre) (x .ann) x))
+      ∙ ap (λ (z : ℤ). z +ℤ coeffIn (x .cre) (x .ann) x) (sym (under-none ts x (s .under))) ∙ s .coeff (x .cre) (x .ann)
+
+  pub both-weigh : (y : Term) → y .ann ≡ x .ann → y .cre ≡ x .cre → natAbs (x .coeff) + natAbs (y .coeff) ≤ keyWeight (x .cre) (x .ann) (us ++ (y ∷ []))
+  both-weigh y p q =
+      let a : natAbs (x .coeff) ≡ natAbs (coeffOf (x .cre) (x .ann) us) = ap natAbs hand-coeff in
+      let b : natAbs (coeffIn (x .cre) (x .ann) y) ≡ natAbs (y .coeff) = ap natAbs (own-words y x p q) in
+      omega (arith, coeff-below (x .cre) (x .ann) us, weight-end (x .cre) (x .ann) us y)

@@ -1,0 +1,63 @@
+-- The weight of one pair of words bounds its coefficient, of fewer rows it is no more, and it is at most the whole weight.
+use mathlib.Core.Path.{_≡_, refl}
+use mathlib.Core.Bool.{Bool, true, false, cond, _&&_}
+use mathlib.Core.List.{List, [], _∷_, _++_}
+use Prim.Native.Nat.{ℕ, zero, suc, _+_, _-_, _^_, _≤_, _<_}
+use native.Mathlib.Omega.{arith}
+use borrow.Author.Tests.{ltb-true}
+use lib.Dec.{eqb, ltb}
+use lib.IntN.{ℤ, pos, negsuc, natAbs, _+ℤ_}
+use Rattle.modes.specs.declared.Term.{Term}
+use Rattle.lent.specs.Rows.{rowsAt}
+use Rattle.record.specs.Terms.{weight}
+use Rattle.record.specs.Coefficients.{coeffIn, coeffOf}
+use Rattle.joins.specs.KeyWeights.{keyWeight, Light}
+
+sub-at : (a b : ℕ) (t : Bool) → ltb a b ≡ t → natAbs (cond t (negsuc (b - suc a)) (pos (a - b))) ≤ a + b
+sub-at a b true e = omega (arith, ltb-true a b e)
+sub-at a b false e = omega arith
+
+triangle : (x y : ℤ) → natAbs (x +ℤ y) ≤ natAbs x + natAbs y
+triangle (pos a) (pos b) = omega arith
+triangle (pos a) (negsuc b) = sub-at a (suc b) (ltb a (suc b)) refl
+triangle (negsuc a) (pos b) = let h = sub-at b (suc a) (ltb b (suc a)) refl in omega arith
+triangle (negsuc a) (negsuc b) = omega arith
+
+pub coeff-below : (cre ann : ℕ) (ts : List Term) → natAbs (coeffOf cre ann ts) ≤ keyWeight cre ann ts
+unfolding coeffOf keyWeight
+coeff-below cre ann [] = omega arith
+coeff-below cre ann (t ∷ ts) =
+    let g = coeff-below cre ann ts in
+    let h = triangle (coeffIn cre ann t) (coeffOf cre ann ts) in
+    omega arith
+
+pub weight-append : (cre ann : ℕ) (ts us : List Term) → keyWeight cre ann (ts ++ us) ≡ keyWeight cre ann ts + keyWeight cre ann us
+unfolding keyWeight
+weight-append cre ann [] us = omega arith
+weight-append cre ann (t ∷ ts) us = let g = weight-append cre ann ts us in omega arith
+
+pub weight-end : (cre ann : ℕ) (ts : List Term) (t : Term) → keyWeight cre ann (ts ++ (t ∷ [])) ≡ keyWeight cre ann ts + natAbs (coeffIn cre ann t)
+unfolding keyWeight
+weight-end cre ann ts t = let g = weight-append cre ann ts (t ∷ []) in omega arith
+
+-- terms whose whole weight is small enough can be joined
+pub light-enough : (ts : List Term) → weight ts < 2 ^ 63 → Light ts
+unfolding keyWeight weight
+light-enough ts h cre ann = let g = below ts in omega arith
+  where
+    one : (b : Bool) (z : ℤ) → natAbs (cond b z (pos 0)) ≤ natAbs z
+    one true z = omega arith
+    one false z = omega arith
+
+    below : (us : List Term) → keyWeight cre ann us ≤ weight us
+    below [] = omega arith
+    below (t ∷ us) =
+        let g = below us in
+        let k = one (eqb (t .ann) ann && eqb (t .cre) cre) (t .coeff) in
+        omega arith
+
+pub weight-up : (cre ann : ℕ) (l : List ℕ) (o i n : ℕ) → i ≤ n → keyWeight cre ann (rowsAt l o i) ≤ keyWeight cre ann (rowsAt l o n)
+unfolding keyWeight rowsAt
+weight-up cre ann l o zero n h = omega arith
+weight-up cre ann l o (suc i) zero h = absurd (omega arith)
+weight-up cre ann l o (suc i) (suc n) h = let g = weight-up cre ann l (o + 24) i n (omega arith) in omega arith

@@ -1,0 +1,10 @@
+pub mod Additive
+pub mod KeyWeights
+pub mod Ends
+pub mod InHand
+pub mod Closing
+pub mod Meeting
+pub mod Joining
+pub mod Sorting
+pub mod Unique
+pub mod Elements

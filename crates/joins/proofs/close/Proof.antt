@@ -1,0 +1,31 @@
+-- `joins::close` meets its contract: the row is dropped, or stored behind those that are done.
+use Rattle.joins.proofs.Closing.{closed-dropped, closed-stored}
+use borrow.Author.Needs.{needs}
+use Rattle.joins.proofs.close.Statement.{statement}
+use Rattle.joins.proofs.close.Tie as tie
+
+returns : tie.Need-returns
+returns c =
+    let s = c .before .before .before .before in
+    closed-dropped (s .args .place) (s .args .row) (s .args .work .now) (s .pre .1) (c .if1 .taken)
+
+mul-put-row : tie.Need-mul-put-row
+mul-put-row c = search needs
+
+put-row-requires : tie.Need-put-row-requires
+put-row-requires c κs = search needs
+
+add-result : tie.Need-add-result
+add-result c = search needs
+
+same-length : tie.Need-same-length
+same-length c = search needs
+
+returns-2 : tie.Need-returns-2
+returns-2 c =
+    let s = c .before .before .before .before .before .before .before .before in
+    closed-stored (s .args .place) (s .args .row) (s .args .work .now) (c .before .before .put-row .last .0) (s .pre .0) (s .pre .1)
+    (c .before .before .before .before .if1 .left) (c .before .before .put-row .ensures)
+
+pub close-spec : {M : Type 1} → statement M
+close-spec = tie.close (tie.spec returns mul-put-row put-row-requires add-result same-length returns-2)

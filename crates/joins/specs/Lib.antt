@@ -1,0 +1,3 @@
+pub mod KeyWeights
+pub mod Collected
+pub mod Steps
