@@ -85,7 +85,7 @@ def show_two_operators(binary, corrected):
         smallest = Smallest(function)
         for m, some in ((1, on_one), (2, on_two), (3, on_three)):
             smallest.look(binary, corrected, ((m, *pair) for pair in itertools.product(some, some)))
-        smallest.show("all pairs with up to two terms each on 1 mode and one on 2, coefficients 1 and -1, and with one on 3, coefficient 1")
+        smallest.show("all pairs with up to two terms on 1 mode and one on 2, coefficients 1 and -1, and of terms on 3")
 
 
 def show_matrices(binary, corrected):

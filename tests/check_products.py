@@ -1,5 +1,6 @@
 #!/usr/bin/env python3
-"""Products, commutators and anticommutators through the C face, against records.py, case 14 and the stored answers of zixy."""
+"""Products, commutators and anticommutators through the C face, against records.py, case 14 and the stored answers of
+zixy."""
 import functools
 import itertools
 import signal
@@ -42,13 +43,15 @@ def judge(calls, test, name, a, b, *lengths):
 
 def check_case_14(calls):
     a, b = records.encode(2, [(2, 1, 1)]), records.encode(2, [(1, 2, 1)])  # {0|1} and {1|0}
+    given = [0, 0, 0, 80, 4, 0, 0, 0]
     for work, out, numbers, left in [
-        (96, 80, [0, 0, 0, 80, 4, 0, 0, 0], records.EXAMPLE), (97, 83, [0, 0, 0, 80, 4, 0, 0, 0], records.EXAMPLE + bytes(3)),
+        (96, 80, given, records.EXAMPLE), (97, 83, given, records.EXAMPLE + bytes(3)),
         (95, 80, [7, 0, 0, 0, 0, 0, 0, 0], bytes(80)), (96, 79, [11, 0, 0, 0, 0, 0, 0, 0], bytes(79)),
         (0, 0, [7, 0, 0, 0, 0, 0, 0, 0], b""),
     ]:
         got, _ = calls.call("commutator", a, b, work, out)
-        calls.tally.same("case 14: the bytes, the branches, the lengths", got, records.Answer(numbers, (bytes(work), left)), (work, out))
+        expected = records.Answer(numbers, (bytes(work), left))
+        calls.tally.same("case 14: the bytes, the branches, the lengths", got, expected, (work, out))
 
 
 def drawn_pair(rng):
@@ -82,6 +85,8 @@ def check_lengths(calls):
         a, b = drawn_pair(calls.rng)
         for name in CALLS:
             work, out = needed(name, a, b)
+            if not out:
+                continue  # refused whatever the lengths
             calls.judge("work and output exactly right", name, a, b, work, out)
             if work:
                 calls.judge("work a byte short: refusal 7", name, a, b, work - 1, out)
@@ -107,7 +112,8 @@ def check_damaged(calls):
         other = records.encode(m % 64 + 1, [])
         for (number, place, record), name in itertools.product(wrong, CALLS):
             for operand, a, b in ((1, record, right), (2, right, record), (1, record, record), (2, other, record)):
-                answer = calls.judge(f"damaged records: refusal {number}", name, a, b, calls.rng.choice((0, WORK)), calls.rng.choice((0, ROOM)))
+                lengths = calls.rng.choice((0, WORK)), calls.rng.choice((0, ROOM))
+                answer = calls.judge(f"damaged records: refusal {number}", name, a, b, *lengths)
                 assert answer.numbers == [number, operand, place, 0, 0, 0, 0, 0]
         for name, (a, b) in itertools.product(CALLS, ((right, other), (other, right))):
             assert calls.judge("two mode counts: refusal 6", name, a, b, 0, 0).numbers[0] == 6
@@ -121,8 +127,8 @@ def one(word, c, m=64):
 def check_weights(calls):
     """8: the product of the weights at exactly 2^60 and above, also where it passes 64 bits; 8 before 7."""
     fits = [(2**30, 2**30), (1, HEAVIEST), (HEAVIEST, 1), (-2**59, 2), (3, HEAVIEST // 3)]
-    passes = [(2**30 + 1, 2**30), (2, HEAVIEST), (HEAVIEST, 2), (HEAVIEST, HEAVIEST), (2**32, 2**32), (-2**59, -2**5), (2**60, 2**4),
-              (3, HEAVIEST // 3 + 1), (2**40, -2**40), (HEAVIEST - 1, HEAVIEST - 1)]
+    passes = [(2**30 + 1, 2**30), (2, HEAVIEST), (HEAVIEST, 2), (HEAVIEST, HEAVIEST), (2**32, 2**32), (-2**59, -2**5),
+              (2**60, 2**4), (3, HEAVIEST // 3 + 1), (2**40, -2**40), (HEAVIEST - 1, HEAVIEST - 1)]
     for x, y in fits + passes:
         for a, b in ((one(1, x), one(2, y)), (one(1, x), one(1, y)), (spread(x, 5), one(0, y)), (one(0, x), spread(y, 7))):
             for name in CALLS:
@@ -219,10 +225,10 @@ def check_sizes(calls):
                 assert answer.numbers[0] == (7 if lengths[0] < work else 10 if others == 683 else 0 if lengths[1] else 11)
 
 
-def ladder_pair(b, more, c=1):
-    """{|0..b-1} times {0..b-1|}, and so many further terms on the right: 2^b rows, and one for each of these."""
+def ladder_pair(b, more=0, c=1):
+    """{|0..b-1} times {0..b-1|}, and so many further creations on the right: 2^b rows, and one for each of these."""
     word = (1 << b) - 1
-    further = [(1 << 40 + i, word, c) for i in range(more)]
+    further = [(0, 1 << 30 + i, c) for i in range(more)]
     return records.encode(64, [(word, 0, c)]), records.encode(64, [(0, word, c), *further])
 
 
@@ -230,15 +236,20 @@ def check_branches(calls):
     """Pairs with 0 to 12 branching modes; results of 2,048 rows and more; 7 before 10, 10 before 9 and 11."""
     for b, name in itertools.product(range(13), CALLS):
         work = 24 * (2**b + (name != "mul"))  # the other order has one row
-        for pair in (ladder_pair(b, 0), ladder_pair(b, 0)[::-1])[:1 if name == "mul" else 2]:
+        for pair in (ladder_pair(b), ladder_pair(b)[::-1])[:1 if name == "mul" else 2]:
             for lengths in ((work, ROOM), (work - 1, ROOM)):
                 answer = calls.judge("0 to 12 branching modes", name, *pair, *lengths)
                 assert answer.numbers[0] == (7 if lengths[0] < work else 10 if b == 12 else 0)
-    for b, number in ((10, 9), (11, 9), (12, 10)):
+    for b, more, number in ((10, 0, 9), (11, 0, 9), (11, 1, 10), (12, 0, 10)):
+        work = 24 * (2**b + more)
+        light, heavy = ladder_pair(b, more, 2**28), ladder_pair(b, more, 2**30 + 1)
         for out in (0, ROOM):
-            assert calls.judge("10 before 9 and 11", "mul", *ladder_pair(b, 0, 2**30), 24 << b, out).numbers[0] == number
-        assert calls.judge("7 before 10 and 9", "mul", *ladder_pair(b, 0, 2**30), (24 << b) - 1, 0).numbers[0] == 7
-        assert calls.judge("8 before 7", "mul", *ladder_pair(b, 0, 2**30 + 1), 0, 0).numbers[0] == 8
+            assert calls.judge("10 before 9 and 11", "mul", *light, work, out).numbers[0] == number
+        assert calls.judge("7 before 10, 9 and 11", "mul", *light, work - 1, 0).numbers[0] == 7
+        assert calls.judge("8 before 7", "mul", *heavy, 0, 0).numbers[0] == 8
+    for more in (0, 1):
+        answer = calls.judge("2,048 and 2,049 rows", "mul", *ladder_pair(11, more), 24 * (2048 + more), ROOM)
+        assert answer.numbers[0] == (10 if more else 0)
 
 
 def check_common(calls):
@@ -323,7 +334,8 @@ def check_stored(calls):
         if agrees:
             calls.tally.same(f"{name}: stored answers marked agree are the Rust's", rows, rust, about)
         else:
-            calls.tally.same(f"{name}: stored answers marked differs are not", rows is not None and rows != rust, True, about)
+            differs = rows is not None and rows != rust
+            calls.tally.same(f"{name}: stored answers marked differs are not", differs, True, about)
 
 
 def main():
@@ -331,9 +343,9 @@ def main():
     print(f"called from Python: {kind}")
     tally = face.Tally()
     calls = Calls(lib, SEED, tally)
-    for check in (check_case_14, check_drawn, check_lengths, check_damaged, check_weights, check_result_weights, check_huge,
-                  check_empty, check_sizes, check_branches, check_common, check_cancelling, check_large, check_one_workspace,
-                  check_stored):
+    for check in (check_case_14, check_drawn, check_lengths, check_damaged, check_weights, check_result_weights,
+                  check_huge, check_empty, check_sizes, check_branches, check_common, check_cancelling, check_large,
+                  check_one_workspace, check_stored):
         check(calls)
     calls.print_refusals()
     tally.close()

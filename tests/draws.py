@@ -13,7 +13,8 @@ def term(rng, m, kind, near=None):
     if kind == "dense":
         return face.word(rng, m, rng.choice((0.1, 0.3, 0.6))), face.word(rng, m, rng.choice((0.1, 0.3, 0.6)))
     near = near or rng.sample(range(m), min(m, 5))
-    counts = (rng.randint(0, min(2, len(near))),) * 2 if kind == "body" else (rng.randint(0, min(3, len(near))) for _ in "ac")
+    most = min(2 if kind == "body" else 3, len(near))
+    counts = [rng.randint(0, most)] * 2 if kind == "body" else [rng.randint(0, most) for _ in "ac"]
     return tuple(sum(1 << p for p in rng.sample(near, k)) for k in counts)
 
 

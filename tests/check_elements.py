@@ -1,0 +1,421 @@
+#!/usr/bin/env python3
+"""Elements, projected matrices, the comparison and float elements through the C face, against records.py, the
+specification's cases and the stored answers of zixy."""
+import itertools
+import struct
+
+import draws
+import face
+import records
+import stored
+from calls import MISSING, Calls
+
+SEED = 20261119
+TOP, FULL = 2**63, 2**64 - 1
+HEAVIEST = 2**60
+NONE = records.encode(2, [])
+IDENTITY = records.encode(2, [(0, 0, 1)])
+
+
+def signed(number):
+    return number - 2**64 if number >> 63 else number
+
+
+# Exact elements
+
+
+def check_cases(calls):
+    """The elements of case 14's record, and case 15."""
+    for word, value in ((1, 1), (2, -1), (3, 0)):
+        got, _ = calls.call("element", records.EXAMPLE, word, word)
+        expected = records.Answer([0, 0, 0, 0, 0, value % 2**64, 0, 0], ())
+        calls.tally.same("case 14: the elements 1, -1, 0", got, expected, word)
+    for a, b, equal in ((IDENTITY, NONE, 0), (NONE, IDENTITY, 0), (IDENTITY, IDENTITY, 1), (NONE, NONE, 1)):
+        got, _ = calls.call("compare", a, b)
+        expected = records.Answer([0, 0, 0, 0, 0, equal, 0, 0], ())
+        calls.tally.same("case 15: different at bra 0, ket 0", got, expected, equal)
+
+
+def acted_on(rng, m, rows):
+    """A bra and a ket: most of the time a ket that a row acts on, and where it takes it."""
+    ket, bra = face.word(rng, m, 0.5), face.word(rng, m, 0.5)
+    if rows and rng.random() < 0.85:
+        ann, cre, _ = rng.choice(rows)
+        ket = (ket | ann) & ~(cre & ~ann)
+        bra = ket & ~ann | cre
+    return bra, ket
+
+
+def check_drawn_elements(calls):
+    rng = calls.rng
+    for _ in range(2500):
+        m = rng.randint(1, 64)
+        rows = draws.rows(rng, m, rng.randint(0, 12))
+        a = records.encode(m, rows)
+        bra, ket = acted_on(rng, m, rows)
+        calls.judge("element: drawn records", "element", a, bra, ket)
+        if m < 64:
+            high = 1 << rng.randint(m, 63)
+            for words in ((bra | high, ket), (bra, ket | high), (bra | 1 << m, ket | high)):
+                answer = calls.judge("element: a word outside the modes, refusal 12", "element", a, *words)
+                assert answer.numbers[:3] == [12, 4 if words[0] == bra else 3, 0]
+
+
+def check_every_element(calls):
+    """Small records: every bra and ket, and words outside."""
+    for _ in range(60):
+        m = calls.rng.randint(1, 3)
+        a = records.encode(m, draws.rows(calls.rng, m, calls.rng.randint(0, 20), "dense", small=True))
+        for bra, ket in itertools.product(range((1 << m) + 1), repeat=2):
+            calls.judge("element: every bra and ket on up to 3 modes", "element", a, bra, ket)
+
+
+def check_large_elements(calls):
+    """2,048 terms that all take a word to itself with plus, with sums at the ends of the range."""
+    drawn = [calls.rng.choice((-1, 1)) * calls.rng.randint(1, 2**48) for _ in range(2048)]
+    ends = [HEAVIEST - 2047] + [1] * 2047
+    for coefficients in ([1] * 2048, [1, -1] * 1024, [2**49] * 2048, [-2**49] * 2048, ends, [-c for c in ends], drawn):
+        a = records.encode(64, [(i, i, c * (-1) ** records.pairs(i)) for i, c in enumerate(coefficients)])
+        for ket in (2047, FULL, 2046, 1024, 0, 2048, TOP):
+            calls.judge("element: 2,048 terms", "element", a, ket, ket)
+        assert signed(records.element(a, 2047, 2047).numbers[5]) == sum(coefficients)
+
+
+# The projected matrix
+
+
+def check_drawn_matrices(calls):
+    """Bases of 0 to 8 words that the terms join."""
+    rng = calls.rng
+    for i in range(2000):
+        m = rng.randint(1, 64)
+        near = rng.sample(range(m), min(m, 4))
+        rows = draws.rows(rng, m, rng.randint(0, 8), rng.choice(("few", "body")), near=near)
+        inside = [sum(1 << p for j, p in enumerate(near) if code >> j & 1) for code in range(1 << len(near))]
+        rest = face.word(rng, m, 0.5) & ~sum(1 << p for p in near)
+        k = 8 if i % 8 == 0 and len(inside) >= 8 else rng.randint(0, min(8, len(inside)))
+        basis = [rest | word for word in rng.sample(inside, k)]
+        test = "mat_ortho_projected: a matrix of 8 words" if k == 8 else "mat_ortho_projected: drawn bases"
+        calls.judge(test, "mat_ortho_projected", records.encode(m, rows), basis)
+
+
+def check_bases(calls):
+    """14 by length, then 12 in order, then 14 by repeats; each before what follows it."""
+    rng = calls.rng
+    a = records.encode(3, draws.rows(rng, 3, 9, "dense"))
+    stated = [
+        (14, 0, [*range(8), 0]), (14, 0, [8] * 9), (14, 0, [0] * 9), (14, 0, [*range(100, 2100)]), (14, 0, [0] * 2048),
+        (12, 0, [8]), (12, 1, [0, 8, 9]), (12, 7, [*range(7), TOP]), (12, 2, [0, 0, FULL]), (12, 1, [5, 8, 5]),
+        (14, 1, [0, 0]), (14, 1, [7, 7, 7]), (14, 3, [1, 2, 3, 2, 1]), (14, 7, [*range(7), 0]), (14, 4, [0, 1, 2, 3, 3, 2, 1]),
+    ]
+    for number, place, basis in stated:
+        answer = calls.judge(f"bases: refusal {number}", "mat_ortho_projected", a, basis)
+        assert answer.numbers[:3] == [number, 3, place]
+    for _ in range(1000):
+        basis = [rng.choice((*range(8), 8, FULL) if rng.random() < 0.1 else range(8)) for _ in range(rng.randint(0, 10))]
+        calls.judge("bases: drawn, refused or not", "mat_ortho_projected", a, basis)
+    for m in (1, 63, 64):
+        top = records.encode(m, [(0, 0, 5), (1 << m - 1, 1 << m - 1, 7)])
+        for basis in ([1 << m - 1], [0, 1 << m - 1], [(1 << m) - 1, 0], [1 << min(m, 63)], [0, FULL]):
+            calls.judge("bases: the highest mode", "mat_ortho_projected", top, basis)
+
+
+# The comparison
+
+
+def check_drawn_comparisons(calls):
+    """Records and copies changed in some terms. Where they differ, so do the library's elements at the pair named."""
+    rng = calls.rng
+    for i in range(2500):
+        m = rng.randint(1, 64)
+        rows = draws.rows(rng, m, rng.randint(0, 12), rng.choice(("dense", "few", "body")))
+        other = {row[:2]: row[2] for row in rows}
+        for _ in range(rng.randint(0, 4)):
+            change_one(rng, m, other)
+        pair = [records.encode(m, rows), records.encode(m, sorted((*words, c) for words, c in other.items()))]
+        if i % 2:
+            pair.reverse()
+        calls.judge("compare: records and changed copies", "compare", *pair)
+        got, _ = calls.call("compare", *pair)
+        if got != MISSING and got.numbers[0] == 0 and not got.numbers[5]:
+            elements = [calls.call("element", record, *got.numbers[6:])[0] for record in pair]
+            calls.tally.same("compare: elements differ at the pair named", elements[0] != elements[1], True, got.numbers)
+        if i % 25 == 0:
+            calls.judge("compare: a record and itself", "compare", pair[0], pair[0])
+
+
+def change_one(rng, m, terms):
+    """Another coefficient, a term less, or a term more."""
+    kind = rng.randrange(3) if terms else 2
+    words = rng.choice(sorted(terms)) if terms else None
+    if kind == 0:
+        terms[words] = -terms[words] if rng.random() < 0.5 else draws.coefficient(rng)
+    elif kind == 1:
+        del terms[words]
+    else:
+        terms[draws.term(rng, m, rng.choice(("dense", "few", "body")))] = draws.coefficient(rng)
+
+
+def check_named(calls):
+    """Which of two differing terms is named: fewest annihilations, then the lowest (annihilation, creation)."""
+    stated = [  # two terms (ann, cre) that differ; the first is named
+        ((4, 7), (3, 0)), ((1, 5), (2, 0)), ((1, 4), (1, 5)), ((0, 1), (0, 7)), ((0, 7), (7, 0)), ((5, 7), (6, 1)),
+        ((TOP, 0), (3, 0)), ((1, TOP), (TOP, 1)), ((TOP, 1), (TOP, TOP)), ((TOP, FULL), (TOP | 1, 0)),
+        ((FULL - 1, 9), (FULL, 0)), ((TOP >> 1, 0), (TOP, 0)), ((0, TOP - 1), (0, TOP)),
+    ]
+    for (named, beside), alike in itertools.product(stated, ([], [(2**40, 2**41, 9)])):
+        both = sorted([(*named, 1), (*beside, -1), *alike])
+        for other in ([], [(*named, 2)], [(*beside, 1)], [(*named, 2), (*beside, 1)]):
+            pair = [records.encode(64, rows) for rows in (both, sorted(other + alike))]
+            for a, b in (pair, pair[::-1]):
+                answer = calls.judge("compare: the term that is named", "compare", a, b)
+                assert answer.numbers[5:] == [0, named[1], named[0]]
+
+
+def check_large_comparisons(calls):
+    """2,048 terms, different in the first, the last or some coefficient, or in a term."""
+    rows = draws.many(calls.rng, 64, 2048)
+    a = records.encode(64, rows)
+    calls.judge("compare: 2,048 terms", "compare", a, records.encode(64, list(rows)))
+    for place in (0, 1, 1000, 2047):
+        changed = rows[:place] + [(*rows[place][:2], 5)] + rows[place + 1:]
+        for other in (changed, rows[:place] + rows[place + 1:]):
+            calls.judge("compare: 2,048 terms", "compare", a, records.encode(64, other))
+            calls.judge("compare: 2,048 terms", "compare", records.encode(64, other), a)
+
+
+# Refusals of records
+
+
+def check_damaged(calls):
+    """1 to 5 before bra, ket and basis; 1 to 6 of a comparison."""
+    for m in (1, 2, 7, 33, 64):
+        good = draws.many(calls.rng, m, 4 if m == 1 else 6)
+        right, other = records.encode(m, good), records.encode(m % 64 + 1, [])
+        wrong = [(1, 0, record) for record in draws.damaged_headers(calls.rng, right)]
+        wrong += [(number, place, records.encode(m, rows)) for number, place, rows in
+                  [*draws.damaged_terms(calls.rng, m, good), *draws.two_faults(calls.rng, m, good)]]
+        for number, place, record in wrong:
+            test, one = f"damaged records: refusal {number}", [number, 1, place, 0, 0, 0, 0, 0]
+            states = (calls.rng.choice((0, FULL)) for _ in ("bra", "ket"))
+            assert calls.judge(test, "element", record, *states).numbers == one
+            for basis in ([0], [FULL, 0, 0], [0] * 9, []):
+                assert calls.judge(test, "mat_ortho_projected", record, basis).numbers == one
+            for operand, a, b in ((1, record, right), (2, right, record), (1, record, record), (2, other, record)):
+                assert calls.judge(test, "compare", a, b).numbers == [number, operand, place, 0, 0, 0, 0, 0]
+        for pair in ((right, other), (other, right)):
+            assert calls.judge("two mode counts: refusal 6", "compare", *pair).numbers[0] == 6
+
+
+# Float elements
+
+PLUS_ZERO, LARGEST = 0, 0x7FEFFFFFFFFFFFFF
+# Infinities, and NaNs that are quiet and not, with payloads
+NOT_FINITE = [0x7FF0000000000000, 0xFFF0000000000000, 0x7FF8000000000000, 0xFFF8000000000000, 0x7FF0000000000001,
+              0xFFF0000000000001, 0x7FF8000000001234, FULL, 0x7FFFFFFFFFFFFFFF, 0x7FF4DEADBEEF0001]
+# Zero, the least and the largest subnormal, the least normal and the largest number, 1, 0.1, 2^53, 2^-53, 1e16
+EDGES = [PLUS_ZERO, 1, 0x000FFFFFFFFFFFFF, 0x0010000000000000, LARGEST, 0x3FF0000000000000, 0x3FB999999999999A,
+         0x4340000000000000, 0x3CA0000000000000, 0x4341C37937E08000]
+EDGES += [bits | TOP for bits in EDGES]
+
+
+def finite(rng):
+    """The bits of a finite number: an end of the range, a small whole number, or any bits near 1."""
+    kind = rng.randrange(4)
+    if kind == 0:
+        return rng.choice(EDGES)
+    if kind == 1:
+        return records.bits_of(float(rng.randint(-3, 3)))
+    return rng.getrandbits(1) << 63 | rng.randint(1023 - 30, 1023 + 30) << 52 | rng.getrandbits(52)
+
+
+def joining(rng, m, bra, ket):
+    """(cre, ann) of a term that takes ket to bra."""
+    still = ket & bra & face.word(rng, m, rng.choice((0.0, 0.3, 0.6)))
+    return bra & ~ket | still, ket & ~bra | still
+
+
+def float_call(parts, m, terms, coefficients, bra, ket):
+    """The name and the arguments of a call: terms are (cre, ann), coefficients a list of bits for each part."""
+    cre, ann = ([term[k] for term in terms] for k in (0, 1))
+    return ("mat_elem_real", "mat_elem_complex")[parts - 1], m, cre, ann, *coefficients[:parts], bra, ket
+
+
+def drawn_list(rng, m, n, bra, ket):
+    """n terms, most of them joining, some repeated."""
+    terms = []
+    for _ in range(n):
+        kind = rng.randrange(8)
+        term = joining(rng, m, bra, ket) if kind < 5 else draws.term(rng, m, "dense")
+        terms.append(rng.choice(terms) if terms and kind == 7 else term)
+    return terms
+
+
+def check_drawn_floats(calls):
+    rng = calls.rng
+    for _ in range(2500):
+        m = rng.randint(1, 64)
+        ket = face.word(rng, m, 0.5)
+        bra = ket if rng.random() < 0.5 else face.word(rng, m, 0.5)
+        terms = drawn_list(rng, m, rng.choice((0, 1, 1, 2, 3, 5, 9, 20)), bra, ket)
+        coefficients = [[finite(rng) for _ in terms] for _ in "ri"]
+        for parts in (1, 2):
+            call = float_call(parts, m, terms, coefficients, bra, ket)
+            calls.judge(f"{call[0]}: drawn lists, by bits", *call)
+
+
+def check_one_joining(calls):
+    """With exactly one joining term the answer is that coefficient signed, exactly, a zero coming out as plus zero."""
+    rng = calls.rng
+    plus, minus, beside = ((0, 0), 3), ((0, 3), 0), (4, 4)  # on ket 3: {|} to 3; {|0,1} to 0 with minus; {2|2} to Zero
+    some = EDGES + [finite(rng) for _ in range(30)]
+    for bits, (term, bra), place in itertools.product(some, (plus, minus), range(3)):
+        terms = [beside] * place + [term] + [beside] * (2 - place)
+        both = bits, bits ^ TOP
+        coefficients = [[rng.choice(EDGES) if t == beside else value for t in terms] for value in both]
+        expected = [value ^ (TOP if bra == 0 else 0) if value % TOP else PLUS_ZERO for value in both]
+        for parts in (1, 2):
+            call = float_call(parts, 3, terms, coefficients, bra, 3)
+            value = struct.pack("<2Q", *(expected[:parts] + [PLUS_ZERO])[:2])
+            got, _ = calls.call(*call)
+            calls.tally.same("exactly one joining term: its coefficient, signed", got, records.Answer([0] * 8, (value,)), call)
+
+
+def check_order(calls):
+    """Sums that depend on the order of the terms and on one rounding for each."""
+    lists = [1e16, 1.0, -1e16, 1.0, 2.0**53], [0.1, 0.2, -0.3, 1e300], [1e300, -1e300, 5e-324, 2.0**-53, -(2.0**-53)]
+    for chosen in itertools.chain(*map(itertools.permutations, lists)):
+        bits = [records.bits_of(number) for number in chosen]
+        for parts in (1, 2):
+            call = float_call(parts, 1, [(0, 0)] * len(bits), [bits, bits[::-1]], 0, 0)
+            calls.judge("sums in the caller's order", *call)
+
+
+def check_overflow(calls):
+    """13 at the term that first makes a sum not finite: rounded to infinity, in either part, and not before."""
+    rng = calls.rng
+    ulp = 0x7CA0000000000000  # 2^971, one unit in the last place of the largest number
+    half, below_half = 0x7C90000000000000, 0x7C8FFFFFFFFFFFFF
+    stated = [  # coefficients, and the place of the refusal or None
+        ([LARGEST, LARGEST], 1), ([LARGEST, half], 1), ([LARGEST, ulp], 1), ([LARGEST, PLUS_ZERO, half], 2),
+        ([LARGEST, LARGEST, LARGEST | TOP], 1), ([LARGEST | TOP, half | TOP], 1), ([LARGEST, below_half], None),
+        ([LARGEST, below_half, below_half], None), ([LARGEST, LARGEST | TOP, LARGEST], None),
+        ([LARGEST | TOP, half, half | TOP], None),
+    ]
+    for (bits, place), before in itertools.product(stated, range(3)):
+        terms = [(1, 1)] * before + [(0, 0)] * len(bits)  # {0|0} gives Zero on ket 0, and is not counted in the sum
+        full = [rng.choice(EDGES) for _ in range(before)] + bits
+        flat = [PLUS_ZERO] * len(terms)
+        for parts, coefficients in ((1, [full]), (2, [full, flat]), (2, [flat, full]), (2, [full, full])):
+            call = float_call(parts, 1, terms, coefficients, 0, 0)
+            answer = calls.judge("sums that aren't finite: refusal 13 at the term", *call)
+            assert answer.numbers[:3] == ([0, 0, 0] if place is None else [13, 1, place + before])
+
+
+def check_not_finite(calls):
+    """Coefficients that aren't finite, at terms that join and at others: 2 then 13 per term, before bra and ket."""
+    rng = calls.rng
+    for bits, place, joins in itertools.product(NOT_FINITE, range(4), (True, False)):
+        terms = [(0, 0)] * place + [(0, 0) if joins else (1, 0)] + [(0, 0)] * 2
+        good = [finite(rng) for _ in terms]
+        bad = good[:place] + [bits] + good[place + 1:]
+        for parts, coefficients in ((1, [bad]), (2, [bad, good]), (2, [good, bad]), (2, [bad, bad])):
+            for bra, ket in ((0, 0), (2, 0), (0, 2)):
+                call = float_call(parts, 1, terms, coefficients, bra, ket)
+                answer = calls.judge("coefficients that aren't finite: refusal 13", *call)
+                assert answer.numbers == [13, 1, place, 0, 0, 0, 0, 0]
+            for at, far in itertools.product(range(len(terms)), ((2, 0), (0, 2))):
+                call = float_call(parts, 1, terms[:at] + [far] + terms[at + 1:], coefficients, 2, 2)
+                answer = calls.judge("words outside and coefficients not finite: by term, 2 before 13", *call)
+                assert answer.numbers[:3] == ([2, 1, at] if at <= place else [13, 1, place])
+
+
+def check_list_lengths(calls):
+    """1 by m and by the lengths; 0 to 2,048 terms."""
+    one = records.bits_of(1.0)
+    for m, n, parts in itertools.product((0, 1, 64, 65, 66, 128, 2**32 + 1, TOP, FULL), (0, 2), (1, 2)):
+        answer = calls.judge("mode counts: refusal 1", *float_call(parts, m, [(0, 0)] * n, [[one] * n] * 2, 0, 0))
+        assert answer.numbers[:3] == ([0, 0, 0] if 1 <= m <= 64 else [1, 1, 0])
+    for lengths in itertools.product((0, 1, 2), repeat=4):
+        lists = [[0] * length for length in lengths]
+        for name, args in (("mat_elem_real", lists[:3]), ("mat_elem_complex", lists)):
+            answer = calls.judge("list lengths: refusal 1", name, 2, *args, 0, 0)
+            assert answer.numbers[:3] == ([0, 0, 0] if len(set(lengths[:len(args)])) == 1 else [1, 1, 0])
+    for n, parts in itertools.product((0, 2047, 2048, 2049, 5000), (1, 2)):
+        answer = calls.judge("0 to 2,048 terms", *float_call(parts, 64, [(0, 0)] * n, [[one] * n] * 2, 7, 7))
+        assert answer.numbers[:3] == ([0, 0, 0] if n <= 2048 else [1, 1, 0])
+        assert n > 2048 or answer.lent[0][:8] == struct.pack("<d", n)
+
+
+def check_list_words(calls):
+    """2 by either word of a term; 12 for the bra and then the ket, before a sum that isn't finite."""
+    for m, parts in itertools.product((1, 5, 63), (1, 2)):
+        out = 1 << m
+        for bra, ket, operand in ((out, 0, 3), (0, out, 4), (FULL, FULL, 3), (TOP, 0, 3), (0, TOP, 4)):
+            call = float_call(parts, m, [(0, 0)] * 2, [[LARGEST] * 2] * 2, bra, ket)
+            answer = calls.judge("bra and ket: refusal 12, before the sums", *call)
+            assert answer.numbers[:3] == [12, operand, 0]
+        for term, place in itertools.product(((out, 0), (0, out), (TOP, FULL)), range(3)):
+            call = float_call(parts, m, [(0, 0)] * place + [term, (out, 0)], [[PLUS_ZERO] * (place + 2)] * 2, FULL, 0)
+            answer = calls.judge("words of terms: refusal 2, before bra and ket", *call)
+            assert answer.numbers[:3] == [2, 1, place]
+
+
+# The stored answers of zixy
+
+
+def stored_call(function, m, states, fields):
+    """The name and the arguments of a stored question."""
+    if function == "proj":
+        basis = [int(word, 16) for word in fields[1]]
+        return "mat_ortho_projected", records.encode(m, stored.rows(fields[0])), basis
+    rows = [[int(field, 16) for field in word.split(":")] for word in fields[0]]
+    columns = ([row[k] for row in rows] for k in range(3 if function == "elem_real" else 4))
+    ann, cre, *coefficients = columns
+    return function.replace("elem", "mat_elem"), m, cre, ann, *coefficients, *(int(word, 16) for word in states)
+
+
+def stored_bytes(function, answer, call):
+    """A stored answer as the bytes that the call leaves: the matrix, or re and im."""
+    if function == "proj":
+        return placed([int(entry) for entry in answer], len(call[2]))
+    return struct.pack("<2Q", *([int(bits, 16) for bits in answer] + [PLUS_ZERO])[:2])
+
+
+def check_stored(calls):
+    for (function, m, *states), fields, agrees, answer in stored.lines("elements"):
+        call = stored_call(function, int(m), states, fields)
+        calls.judge(f"{call[0]}: stored operators", *call)
+        got, _ = calls.call(*call)
+        value = None if got == MISSING or got.numbers[0] else got.lent[0]
+        rust, about = stored_bytes(function, answer, call), f"{function} {m} {states} {fields}"
+        if agrees:
+            calls.tally.same(f"{call[0]}: stored answers marked agree are the Rust's", value, rust, about)
+        else:
+            differs = value is not None and value != rust
+            calls.tally.same(f"{call[0]}: stored answers marked differs are not", differs, True, about)
+
+
+def placed(entries, n):
+    """A matrix of n rows in the place of 64 entries, as bytes."""
+    matrix = [0] * 64
+    for i, j in itertools.product(range(n), repeat=2):
+        matrix[8 * i + j] = entries[n * i + j]
+    return struct.pack("<64q", *matrix)
+
+
+def main():
+    lib, kind = face.load()
+    print(f"called from Python: {kind}")
+    tally = face.Tally()
+    calls = Calls(lib, SEED, tally)
+    for check in (check_cases, check_drawn_elements, check_every_element, check_large_elements, check_drawn_matrices,
+                  check_bases, check_drawn_comparisons, check_named, check_large_comparisons, check_damaged,
+                  check_drawn_floats, check_one_joining, check_order, check_overflow, check_not_finite,
+                  check_list_lengths, check_list_words, check_stored):
+        check(calls)
+    calls.print_refusals()
+    tally.close()
+
+
+main()
