@@ -53,7 +53,7 @@ class Calls:
         self.lib, self.tally = lib, tally
         self.rng, self.dirt = random.Random(seed), random.Random(seed + 1)  # for arguments; for garbage
         self.workspace = None  # buffers handed on, uncleaned, from call to call; None for new garbage in each
-        self.refusals = {}  # (call, number): how often
+        self.refusals = {}  # (call, number that is expected): how often
 
     def to_write(self, length, place):
         """A guarded buffer lent for writing, full of garbage, or what the last call left in it."""
@@ -111,9 +111,9 @@ class Calls:
         self.refusals[name, number] = self.refusals.get((name, number), 0) + 1
 
     def print_refusals(self):
-        """How often each refusal was met, 0 standing for an answer."""
+        """How often each refusal was to be met, by records.py, 0 standing for a call that is not refused."""
         numbers = sorted({number for _, number in self.refusals})
-        print("calls that were answered (0), and that were refused, by number:")
+        print("calls by the number that is expected, 0 where not refused:")
         print(f"{'':28}" + "".join(f"{number:8}" for number in numbers))
         for name in dict.fromkeys(name for name, _ in self.refusals):
             row = (self.refusals.get((name, number), 0) for number in numbers)
