@@ -85,7 +85,7 @@ def show_two_operators(binary, corrected):
         smallest = Smallest(function)
         for m, some in ((1, on_one), (2, on_two), (3, on_three)):
             smallest.look(binary, corrected, ((m, *pair) for pair in itertools.product(some, some)))
-        smallest.show("all pairs with up to two terms each on 1 mode and one on 2, coefficients 1 and -1, and with one on 3, coefficient 1")
+        smallest.show("all pairs with up to two terms on 1 mode and one on 2, coefficients 1 and -1, and of terms on 3")
 
 
 def show_matrices(binary, corrected):
@@ -117,7 +117,7 @@ def show_outside(binary):
     show_answers("a term twice in the first operand, and nothing to add", binary,
                  [f"{function} f 1 {in_line(rows)} 0" for rows in repeated for function in ("add", "sub")])
     show_answers("a term twice in the second operand", binary, [f"add f 1 0 {in_line([one, two])}"])
-    show_answers("a term twice: the Hermitian test", binary, [f"hermitian f 1 {in_line([one, two])}"])
+    show_answers("a term twice: the Hermitian test", binary, [f"hermitian f 1 {in_line(rows)}" for rows in repeated])
     show_answers("a zero coefficient", binary, ["add f 1 1 0 0 0 0", "add f 1 0 1 0 0 0"])
     show_answers("a word outside the modes", binary, ["add f 1 1 0 2 1 0", "elem f 1 1 2 2 1 2 2"])
     none, identity = in_line([]), in_line([one])

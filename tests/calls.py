@@ -52,12 +52,18 @@ class Calls:
     def __init__(self, lib, seed, tally):
         self.lib, self.tally = lib, tally
         self.rng, self.dirt = random.Random(seed), random.Random(seed + 1)  # for arguments; for garbage
-        self.refusals = {}  # (call, number): how often
+        self.workspace = None  # buffers handed on, uncleaned, from call to call; None for new garbage in each
+        self.refusals = {}  # (call, number that is expected): how often
 
-    def buffer(self, kind, arg, known):
-        """A guarded buffer for one argument. An argument given twice is the same memory."""
-        if kind == "o":
-            return face.Lent(self.dirt, arg, self.dirt.randrange(8), garbage(self.dirt, arg))
+    def to_write(self, length, place):
+        """A guarded buffer lent for writing, full of garbage, or what the last call left in it."""
+        known = {} if self.workspace is None else self.workspace
+        if (length, place) not in known:
+            known[length, place] = face.Lent(self.dirt, length, self.dirt.randrange(8), garbage(self.dirt, length))
+        return known[length, place]
+
+    def to_read(self, kind, arg, known):
+        """A guarded buffer with an argument to read. An argument given twice is the same memory."""
         if id(arg) not in known:
             data = arg if kind == "r" else b"".join(map(records.u64, arg))
             known[id(arg)] = face.Lent(self.dirt, len(data), self.dirt.randrange(8) if kind == "r" else 0, data)
@@ -72,10 +78,12 @@ class Calls:
         for kind, arg in zip(kinds, args, strict=True):
             if kind == "u":
                 passed.append(arg)
-                continue
-            buffer = self.buffer(kind, arg, known)
-            passed += [buffer.pointer(), arg if kind == "o" else len(arg)]
-            (lent if kind == "o" else read).append(buffer)
+            elif kind == "o":
+                lent.append(self.to_write(arg, len(lent)))
+                passed += [lent[-1].pointer(), arg]
+            else:
+                read.append(self.to_read(kind, arg, known))
+                passed += [read[-1].pointer(), len(arg)]
         if name in FIXED:
             lent.append(face.Lent(self.dirt, FIXED[name]))
             passed.append(lent[-1].pointer())
@@ -103,9 +111,9 @@ class Calls:
         self.refusals[name, number] = self.refusals.get((name, number), 0) + 1
 
     def print_refusals(self):
-        """How often each refusal was met, 0 standing for an answer."""
+        """How often each refusal was to be met, by records.py, 0 standing for a call that is not refused."""
         numbers = sorted({number for _, number in self.refusals})
-        print("calls that were answered (0), and that were refused, by number:")
+        print("calls by the number that is expected, 0 where not refused:")
         print(f"{'':28}" + "".join(f"{number:8}" for number in numbers))
         for name in dict.fromkeys(name for name, _ in self.refusals):
             row = (self.refusals.get((name, number), 0) for number in numbers)

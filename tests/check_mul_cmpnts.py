@@ -1,5 +1,5 @@
 #!/usr/bin/env python3
-"""The rows of one product, called from Python, against the rule, the specification's cases and the stored answers of zixy."""
+"""The rows of one product through the C face, against the rule, the specification's cases and the stored answers of zixy."""
 import os
 import random
 
@@ -76,7 +76,8 @@ def stored():
 def check_stored(calls):
     for words, agrees, sums in stored():
         right = needed(words)
-        calls.judge("stored pairs: the rule's rows in order", "mul_cmpnts", *words, right + calls.rng.choice((0, 0, 1, 24, 100)))
+        longer = calls.rng.choice((0, 0, 1, 24, 100))
+        calls.judge("stored pairs: the rule's rows in order", "mul_cmpnts", *words, right + longer)
         got = rows_in(calls.call("mul_cmpnts", *words, right)[0])
         by_term = got and records.joined(got)
         if agrees:
@@ -133,9 +134,9 @@ def check_refused(calls):
         for b in [*range(12, 64), *range(58, 64)]:
             calls.judge("b from 12 to 63: refused with 7", "mul_cmpnts", *with_branches(calls.rng, b), out_len)
     for out_len in (0, 24, 65520):
-        numbers = [7, 0, 0, 0, 0, 0, 0, 0]
+        expected = records.Answer([7, 0, 0, 0, 0, 0, 0, 0], (bytes(out_len),))
         got, _ = calls.call("mul_cmpnts", 0, FULL, FULL, 0, out_len)
-        calls.tally.same("b = 64: 7 and zeros, as the specification has it", got, records.Answer(numbers, (bytes(out_len),)), out_len)
+        calls.tally.same("b = 64: 7 and zeros, as the specification has it", got, expected, out_len)
     calls.judge("64 common modes, none branching: one row", "mul_cmpnts", FULL, FULL, FULL, 0, 24)
     calls.judge("64 common modes, one branching: two rows", "mul_cmpnts", FULL - 1, FULL, FULL, 0, 48)
 

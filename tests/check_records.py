@@ -321,7 +321,8 @@ def check_stored(calls):
         if agrees:
             calls.tally.same(f"{name}: stored answers marked agree are the Rust's", got, rust, about)
         else:
-            calls.tally.same(f"{name}: stored answers marked differs are not", got is not None and got != rust, True, about)
+            differs = got is not None and got != rust
+            calls.tally.same(f"{name}: stored answers marked differs are not", differs, True, about)
 
 
 def main():
@@ -329,9 +330,9 @@ def main():
     print(f"called from Python: {kind}")
     tally = face.Tally()
     calls = Calls(lib, SEED, tally)
-    for check in (check_example, check_drawn, check_same_memory, check_lengths, check_damaged, check_both_damaged, check_flips,
-                  check_modes, check_top_modes, check_sizes, check_weights, check_result_weights, check_large, check_every_stretch,
-                  check_stored):
+    for check in (check_example, check_drawn, check_same_memory, check_lengths, check_damaged, check_both_damaged,
+                  check_flips, check_modes, check_top_modes, check_sizes, check_weights, check_result_weights, check_large,
+                  check_every_stretch, check_stored):
         check(calls)
     calls.print_refusals()
     tally.close()

@@ -8,19 +8,20 @@ def coefficient(rng):
     return rng.choice((1, -1)) * rng.randint(1, 1 << rng.choice((0, 1, 3, 8, 20, 40, 54)))
 
 
-def term(rng, m, kind):
-    """(ann, cre) on m modes: dense words, few modes, or as many creations as annihilations."""
+def term(rng, m, kind, near=None):
+    """(ann, cre) on m modes: dense words, few modes, or as many creations as annihilations; these on modes that are near."""
     if kind == "dense":
         return face.word(rng, m, rng.choice((0.1, 0.3, 0.6))), face.word(rng, m, rng.choice((0.1, 0.3, 0.6)))
-    near = rng.sample(range(m), min(m, 5))
-    counts = (rng.randint(0, min(2, len(near))),) * 2 if kind == "body" else (rng.randint(0, min(3, len(near))) for _ in "ac")
+    near = near or rng.sample(range(m), min(m, 5))
+    most = min(2 if kind == "body" else 3, len(near))
+    counts = [rng.randint(0, most)] * 2 if kind == "body" else [rng.randint(0, most) for _ in "ac"]
     return tuple(sum(1 << p for p in rng.sample(near, k)) for k in counts)
 
 
-def rows(rng, m, n, kind=None, small=False):
+def rows(rng, m, n, kind=None, small=False, near=None):
     """Up to n rows, ascending, no term twice, no zero."""
     kind = kind or rng.choice(("dense", "few", "body"))
-    terms = {term(rng, m, kind) for _ in range(n)}
+    terms = {term(rng, m, kind, near) for _ in range(n)}
     return [(*words, rng.choice((-3, -2, -1, 1, 2, 3)) if small else coefficient(rng)) for words in sorted(terms)]
 
 

@@ -1,4 +1,5 @@
-/* The C face against a plain implementation that works ladder by ladder. */
+/* The C face from C: `fermion_apply` against a plain implementation that works ladder by ladder, and every other function
+ * on the specification's example, whose answers are worked out by hand. */
 #include "fermion.h"
 #include <stdbool.h>
 #include <stdio.h>
@@ -109,9 +110,203 @@ static struct tally check_applies(void)
     return t;
 }
 
+/* The specification's example: {0|0} - {1|1} on two modes. */
+static const uint8_t example[80] = {
+    1, 0, 0, 0, 2, 0, 0, 0, 2, 0, 0, 0, 32, 0, 0, 0, 48, 0, 0, 0, 64, 0, 0, 0, 80, 0, 0, 0, 0, 0, 0, 0,
+    1, 0, 0, 0, 0, 0, 0, 0, 2, 0, 0, 0, 0, 0, 0, 0, 1, 0, 0, 0, 0, 0, 0, 0, 2, 0, 0, 0, 0, 0, 0, 0,
+    1, 0, 0, 0, 0, 0, 0, 0, 255, 255, 255, 255, 255, 255, 255, 255,
+};
+/* No terms, on two modes and on three. */
+static const uint8_t none[32] = {1, 0, 0, 0, 2, 0, 0, 0, 0, 0, 0, 0, 32, 0, 0, 0, 32, 0, 0, 0, 32, 0, 0, 0, 32};
+static const uint8_t other[32] = {1, 0, 0, 0, 3, 0, 0, 0, 0, 0, 0, 0, 32, 0, 0, 0, 32, 0, 0, 0, 32, 0, 0, 0, 32};
+
+/* an output between guards, full of garbage before the call */
+struct lent {
+    uint8_t before[16], out[128], after[16];
+};
+
+static struct guarded answer_of(uint64_t number, uint64_t operand, uint64_t len, uint64_t rows, uint64_t x, uint64_t y,
+                                uint64_t z)
+{
+    return (struct guarded){7, {number, operand, 0, len, rows, x, y, z}, 9};
+}
+
+/* eight numbers between guards, full of garbage before the call */
+static struct guarded dirty(void)
+{
+    struct guarded g = {7, {0}, 9};
+    for (int i = 0; i < 8; i++)
+        g.answer[i] = next();
+    return g;
+}
+
+static void same_answer(struct tally *t, struct guarded got, struct guarded expected)
+{
+    compare(t, &got, &expected, sizeof got);
+}
+
+typedef void test_of(const uint8_t *a, size_t a_len, uint64_t answer[8]);
+
+/* a function of one record that fills no output: its values on the example, and the refusal of one byte less */
+static struct tally check_test(const char *name, test_of *f, uint64_t x, uint64_t y, uint64_t z)
+{
+    struct tally t = {name, 0, 0};
+    struct guarded got = dirty();
+    f(example, 80, got.answer);
+    same_answer(&t, got, answer_of(0, 0, 0, 0, x, y, z));
+    got = dirty();
+    f(example, 79, got.answer);
+    same_answer(&t, got, answer_of(1, 1, 0, 0, 0, 0, 0));
+    return t;
+}
+
+static struct tally check_block(void)
+{
+    struct tally t = {"fermion_block", 0, 0};
+    const uint64_t expected[][3] = {{1, 48, 8}, {2, 56, 8}, {0, 0, 0}, {3, 0, 0}, {4, 0, 0}};
+    for (size_t i = 0; i < sizeof expected / sizeof expected[0]; i++) {
+        struct guarded got = dirty();
+        fermion_block(example, 80, expected[i][0], got.answer);
+        same_answer(&t, got, answer_of(0, 0, 0, 0, expected[i][1], expected[i][2], 0));
+    }
+    return t;
+}
+
+static struct tally check_element(void)
+{
+    struct tally t = {"fermion_element", 0, 0};
+    const struct {
+        uint64_t bra, ket, number, operand;
+        int64_t value;
+    } expected[] = {{1, 1, 0, 0, 1}, {2, 2, 0, 0, -1}, {3, 3, 0, 0, 0}, {1, 2, 0, 0, 0}, {4, 4, 12, 3, 0}, {0, 4, 12, 4, 0}};
+    for (size_t i = 0; i < sizeof expected / sizeof expected[0]; i++) {
+        struct guarded got = dirty();
+        fermion_element(example, 80, expected[i].bra, expected[i].ket, got.answer);
+        same_answer(&t, got, answer_of(expected[i].number, expected[i].operand, 0, 0, (uint64_t)expected[i].value, 0, 0));
+    }
+    return t;
+}
+
+/* what one call that fills an output must leave: len bytes, then zeros as far as room, then garbage as it was */
+struct left {
+    struct lent lent;
+    struct guarded answer;
+};
+
+static struct left before_call(void)
+{
+    struct left l;
+    for (size_t i = 0; i < sizeof l.lent; i++)
+        ((uint8_t *)&l.lent)[i] = (uint8_t)next();
+    l.answer = dirty();
+    return l;
+}
+
+static struct left expected_left(struct left l, size_t room, const uint8_t *bytes, struct guarded answer)
+{
+    memset(l.lent.out, 0, room);
+    memcpy(l.lent.out, bytes, answer.answer[3]);
+    l.answer = answer;
+    return l;
+}
+
+typedef void sum_of(const uint8_t *a, size_t a_len, const uint8_t *b, size_t b_len, uint8_t *out, size_t out_len,
+                    uint64_t answer[8]);
+
+static void check_sum(struct tally *t, sum_of *f, const uint8_t *b, size_t b_len, size_t room, const uint8_t *bytes,
+                      struct guarded answer)
+{
+    struct left got = before_call(), expected = expected_left(got, room, bytes, answer);
+    f(example, 80, b, b_len, got.lent.out, room, got.answer.answer);
+    compare(t, &got, &expected, sizeof got);
+}
+
+/* the example and itself give `doubled`; with no terms it stays; then 1 of the second, 6 and 11 */
+static struct tally check_sums(const char *name, sum_of *f, const uint8_t *doubled, size_t len)
+{
+    struct tally t = {name, 0, 0};
+    check_sum(&t, f, example, 80, 100, doubled, answer_of(0, 0, len, 0, 0, 0, 0));
+    check_sum(&t, f, none, 32, 80, example, answer_of(0, 0, 80, 0, 0, 0, 0));
+    check_sum(&t, f, none, 31, 80, example, answer_of(1, 2, 0, 0, 0, 0, 0));
+    check_sum(&t, f, other, 32, 80, example, answer_of(6, 0, 0, 0, 0, 0, 0));
+    check_sum(&t, f, none, 32, 79, example, answer_of(11, 0, 0, 0, 0, 0, 0));
+    return t;
+}
+
+static struct tally check_add(void)
+{
+    uint8_t doubled[80];
+    memcpy(doubled, example, 80);
+    doubled[64] = 2;   /* 1 + 1 */
+    doubled[72] = 254; /* -1 - 1 */
+    return check_sums("fermion_add", fermion_add, doubled, 80);
+}
+
+/* the example is its own adjoint, and {1|0} is the adjoint of {0|1} */
+static struct tally check_adjoint(void)
+{
+    struct tally t = {"fermion_adjoint", 0, 0};
+    static const uint8_t hop[2][56] = {
+        {1, 0, 0, 0, 2, 0, 0, 0, 1, 0, 0, 0, 32, 0, 0, 0, 40, 0, 0, 0, 48, 0, 0, 0, 56, 0, 0, 0, 0, 0, 0, 0, 2, 0, 0, 0, 0,
+         0, 0, 0, 1, 0, 0, 0, 0, 0, 0, 0, 5},
+        {1, 0, 0, 0, 2, 0, 0, 0, 1, 0, 0, 0, 32, 0, 0, 0, 40, 0, 0, 0, 48, 0, 0, 0, 56, 0, 0, 0, 0, 0, 0, 0, 1, 0, 0, 0, 0,
+         0, 0, 0, 2, 0, 0, 0, 0, 0, 0, 0, 5},
+    };
+    const struct {
+        const uint8_t *a, *bytes;
+        size_t len, room;
+        struct guarded answer;
+    } calls[] = {
+        {example, example, 80, 128, answer_of(0, 0, 80, 0, 0, 0, 0)}, {hop[0], hop[1], 56, 56, answer_of(0, 0, 56, 0, 0, 0, 0)},
+        {hop[0], hop[1], 56, 55, answer_of(11, 0, 0, 0, 0, 0, 0)},    {example, example, 79, 80, answer_of(1, 1, 0, 0, 0, 0, 0)},
+    };
+    for (size_t i = 0; i < sizeof calls / sizeof calls[0]; i++) {
+        struct left got = before_call(), expected = expected_left(got, calls[i].room, calls[i].bytes, calls[i].answer);
+        fermion_adjoint(calls[i].a, calls[i].len, got.lent.out, calls[i].room, got.answer.answer);
+        compare(&t, &got, &expected, sizeof got);
+    }
+    return t;
+}
+
+/* {|0} times {0|} is {|} - {0|0}, the lower rank first; a byte less is refused with 7; {|0} times {|0} is nothing */
+static struct tally check_mul_cmpnts(void)
+{
+    struct tally t = {"fermion_mul_cmpnts", 0, 0};
+    static const uint8_t rows[48] = {[16] = 1, [24] = 1, [32] = 1, [40] = 255, 255, 255, 255, 255, 255, 255, 255};
+    const struct {
+        uint64_t r_cre, r_ann;
+        size_t room;
+        struct guarded answer;
+    } calls[] = {
+        {1, 0, 48, answer_of(0, 0, 48, 2, 0, 0, 0)},
+        {1, 0, 60, answer_of(0, 0, 48, 2, 0, 0, 0)},
+        {1, 0, 47, answer_of(7, 0, 0, 0, 0, 0, 0)},
+        {0, 1, 0, answer_of(0, 0, 0, 0, 0, 0, 0)},
+    };
+    for (size_t i = 0; i < sizeof calls / sizeof calls[0]; i++) {
+        struct left got = before_call(), expected = expected_left(got, calls[i].room, rows, calls[i].answer);
+        fermion_mul_cmpnts(0, 1, calls[i].r_cre, calls[i].r_ann, got.lent.out, calls[i].room, got.answer.answer);
+        compare(&t, &got, &expected, sizeof got);
+    }
+    return t;
+}
+
 int main(void)
 {
-    struct tally all[] = {check_applies()};
+    struct tally all[] = {
+        check_applies(),
+        check_mul_cmpnts(),
+        check_test("fermion_check", fermion_check, 2, 2, 2),
+        check_add(),
+        check_sums("fermion_sub", fermion_sub, none, 32),
+        check_adjoint(),
+        check_test("fermion_is_hermitian", fermion_is_hermitian, 1, 0, 0),
+        check_test("fermion_conserves_particle_number", fermion_conserves_particle_number, 1, 0, 0),
+        check_test("fermion_max_n_body", fermion_max_n_body, 1, 0, 0),
+        check_test("fermion_active_modes", fermion_active_modes, 3, 0, 0),
+        check_block(),
+        check_element(),
+    };
     int passed = 0, failed = 0;
     for (size_t i = 0; i < sizeof all / sizeof all[0]; i++) {
         printf("%s: %ld compared, %ld differ\n", all[i].name, all[i].compared, all[i].differ);

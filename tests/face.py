@@ -24,10 +24,9 @@ class Lent:
     def __init__(self, rng, length, shift=0, filled=None):
         self.length = length
         self.start, self.end = GUARD + shift, GUARD + shift + length
-        self.whole = ctypes.create_string_buffer(rng.randbytes(self.end + GUARD), self.end + GUARD)
-        if filled is not None:
-            self.whole[self.start:self.end] = filled
-        self.guards = self.whole.raw[:self.start], self.whole.raw[self.end:]
+        self.guards = rng.randbytes(self.start), rng.randbytes(GUARD)
+        inside = rng.randbytes(length) if filled is None else filled
+        self.whole = ctypes.create_string_buffer(self.guards[0] + inside + self.guards[1], self.end + GUARD)
 
     def pointer(self):
         return ctypes.byref(self.whole, self.start)
