@@ -1,11 +1,12 @@
 -- The answer is fixed by what the rows at entry make: how many rows are left, and which.
-use mathlib.Core.Path.{_≡_, refl, sym, ap, _∙_}
+use mathlib.Core.Path.{_≡_, sym, ap, _∙_}
 use mathlib.Core.List.{List}
-use Prim.Native.Nat.{ℕ, zero, suc, _+_}
+use Prim.Native.Nat.{ℕ}
 use lib.ListN.{length}
 use Rattle.modes.specs.declared.Term.{Term}
 use Rattle.lent.specs.Every.{Every}
 use Rattle.lent.specs.Rows.{rowsAt}
+use Rattle.lent.proofs.RowLaws.{length-rows-at}
 use Rattle.record.specs.Terms.{Ascending}
 use Rattle.record.specs.Canonical.{Nonzero}
 use Rattle.record.specs.Coefficients.{coeffOf}
@@ -16,11 +17,6 @@ use Rattle.joins.specs.Collected.{Collected}
 pub collected-only : (n : ℕ) (l m : List ℕ) (k : ℕ) (ts : List Term) → Collected n l m k → Ascending ts → Every Nonzero ts
     → ((cre ann : ℕ) → coeffOf cre ann ts ≡ coeffOf cre ann (rowsAt l 0 n)) → rowsAt m 0 k ≡ ts
 collected-only n l m k ts c a z e = same-terms (rowsAt m 0 k) ts (c .ascending) a (c .nonzero) z (λ cre ann. c .coeff cre ann ∙ sym (e cre ann))
-
-length-rows-at : (l : List ℕ) (o n : ℕ) → length (rowsAt l o n) ≡ n
-unfolding rowsAt
-length-rows-at l o zero = refl
-length-rows-at l o (suc n) = ap suc (length-rows-at l (o + 24) n)
 
 -- two answers to rows that make the same are the same
 pub collected-unique : (n n2 : ℕ) (l l2 m m2 : List ℕ) (k k2 : ℕ) → Collected n l m k → Collected n2 l2 m2 k2

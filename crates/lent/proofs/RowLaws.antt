@@ -1,9 +1,9 @@
 -- Rows: a stored one is read back, those beside it are kept, and a list of terms comes back out of its bytes.
-use mathlib.Core.Path.{_≡_, refl, sym, ap, _∙_}
+use mathlib.Core.Path.{_≡_, refl, sym, ap, ap₂, _∙_}
 use mathlib.Core.List.{List, [], _∷_, _++_, append-assoc}
-use Prim.Native.Nat.{ℕ, zero, suc, _+_, _*_, _≤_, _<_}
+use Prim.Native.Nat.{ℕ, zero, suc, _+_, _-_, _*_, _≤_, _<_}
 use native.Mathlib.Omega.{arith}
-use native.Mathlib.Nat.{add-zero, suc-add, mul-suc}
+use native.Mathlib.Nat.{zero-add, add-zero, suc-add, mul-suc}
 use lib.IntN.{ℤ}
 use lib.ListN.{length, getD, take, drop, length-append}
 use lib.Seq.{drop-drop, take-add, length-take-le}
@@ -133,6 +133,38 @@ pub rows-put : (l : List ℕ) (o n : ℕ) (t : Term) → o + 24 * n + 24 ≤ len
 rows-put l o n t h f =
     let room : o + 24 * n + length (rowBytes t) ≤ length l = rw (length-row t) h in
     rw (rows-more, rows-before l (o + 24 * n) (rowBytes t) room o n (omega arith), row-put l (o + 24 * n) t (omega arith) f)
+
+pub length-rows-at : (l : List ℕ) (o n : ℕ) → length (rowsAt l o n) ≡ n
+unfolding rowsAt
+length-rows-at l o zero = refl
+length-rows-at l o (suc n) = ap suc (length-rows-at l (o + 24) n)
+
+-- the i-th of n rows, and those after it
+pub rows-next : (l : List ℕ) (i n : ℕ) → i < n → rowsAt l (24 * i) (n - i) ≡ rowAt l (24 * i) ∷ rowsAt l (24 * (i + 1)) (n - (i + 1))
+unfolding rowsAt
+rows-next l i n h =
+    let e : n - i ≡ suc (n - (i + 1)) = omega arith in
+    let f : 24 * i + 24 ≡ 24 * (i + 1) = omega arith in
+    ap (rowsAt l (24 * i)) e ∙ ap (λ (o : ℕ). rowAt l (24 * i) ∷ rowsAt l o (n - (i + 1))) f
+
+-- rows in two parts
+pub rows-plus : (l : List ℕ) (o a b : ℕ) → rowsAt l o (a + b) ≡ rowsAt l o a ++ rowsAt l (o + 24 * a) b
+unfolding rowsAt
+rows-plus l o zero b = rw (zero-add, add-zero)
+rows-plus l o (suc a) b =
+    let e : o + 24 + 24 * a ≡ o + 24 * suc a = omega (arith, mul-suc 24 a) in
+    rw (suc-add, ← e) (ap (λ (ts : List Term). rowAt l o ∷ ts) (rows-plus l (o + 24) a b))
+
+-- rows stored after n others
+pub rows-put-all : (l : List ℕ) (n : ℕ) (ts : List Term) → 24 * n + 24 * length ts ≤ length l → Every Fit ts
+    → rowsAt (put l (24 * n) (rowsBytes ts)) 0 (n + length ts) ≡ rowsAt l 0 n ++ ts
+unfolding put
+rows-put-all l n ts h f =
+    let room : 24 * n + length (rowsBytes ts) ≤ length l = rw (length-rows ts) h in
+    rows-plus (put l (24 * n) (rowsBytes ts)) 0 n (length ts)
+    ∙ ap₂ (λ (x y : List Term). x ++ y) (rows-before l (24 * n) (rowsBytes ts) room 0 n (omega arith))
+    (ap (λ (o : ℕ). rowsAt (put l (24 * n) (rowsBytes ts)) o (length ts)) (zero-add (24 * n))
+    ∙ rows-at (take (24 * n) l) (drop (24 * n + length (rowsBytes ts)) l) (24 * n) ts (length-take-le (24 * n) l (omega arith)) f)
 
 three-words : (l : List ℕ) → take 24 l ≡ take 8 l ++ (take 8 (drop 8 l) ++ take 8 (drop 16 l))
 three-words l = take-add 8 16 l ∙ ap (λ (z : List ℕ). take 8 l ++ z) (take-add 8 8 (drop 8 l) ∙ rw (drop-drop 8 8 l))

@@ -1,11 +1,11 @@
 -- Signed numbers of 64 bits: their range, and their bits.
-use Prim.Native.Nat.{ℕ, zero, suc, _+_, _-_, _≤_, _<_, _^_}
+use Prim.Native.Nat.{ℕ, zero, suc, _+_, _-_, _*_, _≤_, _<_, _^_}
 use mathlib.Core.Path.{_≡_, refl, sym, _∙_, ap}
 use mathlib.Core.Bool.{Bool, true, false, cond, true≢false}
 use native.Mathlib.Omega.{arith}
 use native.Mathlib.Nat.{zero-add}
 use borrow.Author.Tests.{le-ltb, ltb-true}
-use lib.IntN.{ℤ, pos, negsuc, negℤ, natAbs, subℕ, _+ℤ_, _-ℤ_}
+use lib.IntN.{ℤ, pos, negsuc, negℤ, natAbs, subℕ, _+ℤ_, _-ℤ_, _*ℤ_}
 use lib.Dec.{T, ltb}
 use lib.Signed.{mag, nonNeg, ltZ}
 use mir.Syntax.{w64}
@@ -101,3 +101,17 @@ abs-sum (pos a) (pos b) = omega arith
 abs-sum (pos a) (negsuc b) = difference-at a (suc b) (ltb a (suc b)) refl
 abs-sum (negsuc a) (pos b) = let h = difference-at b (suc a) (ltb b (suc a)) refl in omega arith
 abs-sum (negsuc a) (negsuc b) = omega arith
+
+-- a product is as far from zero as its factors say
+abs-neg : (n : ℕ) → natAbs (negℤ (pos n)) ≡ n
+abs-neg zero = refl
+abs-neg (suc n) = refl
+
+pub abs-product : (x y : ℤ) → natAbs (x *ℤ y) ≡ natAbs x * natAbs y
+abs-product (pos a) (pos b) = refl
+abs-product (pos a) (negsuc b) = abs-neg (a * suc b)
+abs-product (negsuc a) (pos b) = abs-neg (suc a * b)
+abs-product (negsuc a) (negsuc b) = refl
+
+pub product-fits : (x y : ℤ) → natAbs x * natAbs y < 2 ^ 63 → SFits w64 (x *ℤ y)
+product-fits x y h = abs-fits (x *ℤ y) (rw (abs-product x y) h)

@@ -4,8 +4,8 @@ use modes::Term;
 use modes::Written;
 ghost use mathlib.Core.Path.{_≡_};
 ghost use mathlib.Core.List.{_++_};
-ghost use Prim.Native.Nat.{_+_, _-_, _≤_, _<_, _^_};
-ghost use lib.IntN.{negℤ, natAbs, _+ℤ_};
+ghost use Prim.Native.Nat.{_+_, _-_, _*_, _≤_, _<_, _^_};
+ghost use lib.IntN.{negℤ, natAbs, _+ℤ_, _*ℤ_};
 ghost use lib.ListN.{length, take};
 ghost use lib.Signed.{mag};
 ghost use mir.Syntax.{w64};
@@ -105,6 +105,13 @@ pub fn negated(x: i64) -> i64
     ensures { λ r. ⌜ r ≡ negℤ x ⌝ }
 {
     -x
+}
+
+pub fn product(x: i64, y: i64) -> i64
+    requires { ⌜ natAbs x * natAbs y < 2 ^ 63 ⌝ }
+    ensures { λ r. ⌜ r ≡ x *ℤ y ⌝ }
+{
+    x * y
 }
 
 // The term whose row stands at `at`.

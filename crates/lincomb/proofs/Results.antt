@@ -90,6 +90,8 @@ pub record Opens (a b : List ℕ) (p : Opened) : Type 0 where
   pub modes : p .modes ≡ modesOf a
   pub left : p .left ≡ countOf a
   pub right : p .right ≡ countOf b
+  pub left-weight : p .«left_weight» ≡ weight (termsOf a)
+  pub right-weight : p .«right_weight» ≡ weight (termsOf b)
 
 -- a pair that is not refused
 module _ (a b : List ℕ) (z : (pairRefusal a b) .number ≡ 0) where
@@ -141,6 +143,8 @@ module _ (a b : List ℕ) (p : Opened) (ep : p ≡ openedOf a b) where
             modes = ap (λ (x : Opened). x .modes) e;
             left = ap (λ (x : Opened). x .left) e;
             right = ap (λ (x : Opened). x .right) e;
+            left-weight = ap (λ (x : Opened). x .«left_weight») e;
+            right-weight = ap (λ (x : Opened). x .«right_weight») e;
           }
       go false q e = absurd (eqb-false _ _ q (ap (λ (x : Opened). x .refusal .number) (sym e) ∙ z))
 

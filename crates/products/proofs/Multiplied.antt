@@ -9,6 +9,7 @@ use native.Mathlib.Omega.{arith}
 use lib.Bits.{bitAnd, bitOr, bitXor, or-zero-r}
 use lib.Count.{ones}
 use lib.Dec.{ltb, lit<}
+use lib.Pow.{pow-pos}
 use lib.IntN.{ℤ, pos}
 use lib.ListN.{length, take, drop}
 use lib.Seq.{take-at}
@@ -24,13 +25,16 @@ use Rattle.modes.proofs.Sets.{each-all, each-at, odd-none}
 use Rattle.modes.proofs.Digits.{lt-or-ge, bit-and, bit-not, bit-above, bit-none, bits-xor, odd-xor, ext}
 use Rattle.modes.proofs.Counts.{ones-word}
 use Rattle.lent.specs.Bytes.{put, zeros}
-use Rattle.lent.specs.Rows.{rowsBytes}
+use Rattle.lent.specs.Rows.{rowBytes, rowsBytes}
 use Rattle.lent.specs.Outputs.{Output, refusedOutput, filledOutput, Gives}
 use Rattle.lent.proofs.RowLaws.{length-rows}
 use Rattle.products.specs.Product.{fine, branch, choices, notEmpty, branching, creAt, annAt, minusAt, rowTimes, rowsTimes, noRoom, multiplied}
 use Rattle.products.specs.Walk.{walk}
+use Rattle.products.specs.Fitting.{Fitting, rowsOf}
+use Rattle.products.specs.declared.ProductHelper.{ProductHelper}
 use Rattle.products.proofs.Signs.{joined}
 use Rattle.products.proofs.ProductActs.{minus-is}
+use Rattle.products.proofs.Walks.{none-left, walk-none}
 use Rattle.products.proofs.WalkRows.{walk-rows, branching-number}
 use Rattle.products.proofs.Choices.{length-map, choices-number}
 
@@ -45,13 +49,6 @@ and-not a b c p ha hc = bit-and (bitAnd a b) ((2 ^ 64 - 1) - c) p ∙ ap (λ (x 
 -- the code's count of branching modes
 pub bifurcation-number : (Lc La Rc Ra w : ℕ) → w < 2 ^ 64 → ((p : ℕ) → bit w p ≡ branching Lc La Rc Ra p) → ones w ≡ count 64 (branching Lc La Rc Ra)
 bifurcation-number Lc La Rc Ra w h is = ones-word w h ∙ branching-number Lc La Rc Ra w h is
-
--- room for the rows of a word of branching modes, and their end
-pub room-for : (w room : ℕ) → w < 2 ^ 64 → 24 * 2 ^ ones w ≤ room → 0 + 24 * 2 ^ count 64 (bit w) ≤ room
-room-for w room h fit = rw (zero-add (24 * 2 ^ count 64 (bit w)), ← ones-word w h) fit
-
-pub end-inside : (w room end len : ℕ) → w < 2 ^ 64 → 24 * 2 ^ ones w ≤ room → end ≡ 0 + 24 * 2 ^ count 64 (bit w) → len ≡ room → end ≤ len
-end-inside w room end len h fit e k = rw (e, k) (room-for w room h fit)
 
 -- ---- the lowest row
 
@@ -161,37 +158,59 @@ module _ (Lc La Rc Ra : ℕ) where
   unfolding multiplied
   seven-is room e l = rw (e, lt-ltb room _ l)
 
-  -- not empty, and room: the walk's rows, put at the front of what the output held, and zeros past them
-  module _ (l : List ℕ) (full : notEmpty Lc La Rc Ra ≡ true) (w : ℕ) (h : w < 2 ^ 64) (is : (p : ℕ) → bit w p ≡ branching Lc La Rc Ra p)
-      (fit : 24 * 2 ^ ones w ≤ length l) where
-    rows : List Term
-    rows = rowsTimes Lc La Rc Ra (pos 1)
+  -- the rows, put at the front of what the output held, and zeros past them
+  pub gives-rows : (l : List ℕ) → notEmpty Lc La Rc Ra ≡ true → 24 * 2 ^ count 64 (branching Lc La Rc Ra) ≤ length l → (end branches : ℕ) (m after : List ℕ)
+      → end ≡ 0 + 24 * length (rowsTimes Lc La Rc Ra (pos 1)) → m ≡ put l 0 (rowsBytes (rowsTimes Lc La Rc Ra (pos 1))) → length m ≡ length l
+      → branches ≡ end / 24 → after ≡ take end m ++ zeros (length m - end)
+      → Gives (multiplied Lc La Rc Ra (length l)) (wrote end branches) after
+  unfolding multiplied put
+  gives-rows l full room end branches m after ee em el eb ea = record {
+    answer = rw (full, le-ltb (length l) _ room) (ap₂ wrote (at-end ∙ sym size) (eb ∙ ap (λ (n : ℕ). n / 24) at-end ∙ mul-div-cancel-left (length (rowsTimes Lc La Rc Ra (pos 1))) (lit< tt)));
+    bytes = ea ∙ rw (full, le-ltb (length l) _ room) (ap₂ (λ (x y : List ℕ). x ++ y)
+        (ap (take end) em ∙ take-at (rowsBytes (rowsTimes Lc La Rc Ra (pos 1))) (drop (0 + length (rowsBytes (rowsTimes Lc La Rc Ra (pos 1)))) l) end (size ∙ sym at-end))
+        (ap₂ (λ (n k : ℕ). zeros (n - k)) el (at-end ∙ sym size)));
+  }
+    where
+      size : length (rowsBytes (rowsTimes Lc La Rc Ra (pos 1))) ≡ 24 * length (rowsTimes Lc La Rc Ra (pos 1))
+      size = length-rows (rowsTimes Lc La Rc Ra (pos 1))
 
-    number : ones w ≡ count 64 (branching Lc La Rc Ra)
-    number = bifurcation-number Lc La Rc Ra w h is
+      at-end : end ≡ 24 * length (rowsTimes Lc La Rc Ra (pos 1))
+      at-end = ee ∙ zero-add _
 
-    size : length (rowsBytes rows) ≡ 24 * 2 ^ count 64 (branching Lc La Rc Ra)
-    unfolding rows
-    size = length-rows rows ∙ ap (λ (n : ℕ). 24 * n) (rows-number (pos 1) full)
+-- the walk's rows are the product's, and there is room for them from `at` on
+module _ (h : ProductHelper) (w : ℕ) (small : w < 2 ^ 64) (z : ℤ) (at room : ℕ) (f : Fitting h w (room - at)) where
+  number : 2 ^ count 64 (bit w) ≡ length (rowsOf h z)
+  number = ap (λ (n : ℕ). 2 ^ n) (branching-number (h .«l_cre») (h .«l_ann») (h .«r_cre») (h .«r_ann») w small (f .modes)) ∙ sym (rows-number (h .«l_cre») (h .«l_ann») (h .«r_cre») (h .«r_ann») z (f .full))
 
-    room : 24 * 2 ^ count 64 (branching Lc La Rc Ra) ≤ length l
-    room = rw (← number) fit
+  pub walk-fits : at + 24 * 2 ^ count 64 (bit w) ≤ room
+  walk-fits = let some = pow-pos (count 64 (bit w)) in omega (arith, rw (ones-word w small) at (f .fit))
 
-    walked : (t : Term) → t ≡ rowTimes Lc La Rc Ra (pos 1) 0 → walk (count 64 (bit w)) w t ≡ rows
-    unfolding rows
-    walked t e = ap (walk (count 64 (bit w)) w) e ∙ walk-rows Lc La Rc Ra w h is (pos 1) ∙ sym (rows-full (pos 1) full)
+  pub walk-ends : at + 24 * 2 ^ count 64 (bit w) ≡ at + 24 * length (rowsOf h z)
+  walk-ends = ap (λ (n : ℕ). at + 24 * n) number
 
-    pub gives-rows : (t : Term) (end branches : ℕ) (m after : List ℕ)
-        → t ≡ rowTimes Lc La Rc Ra (pos 1) 0 → end ≡ 0 + 24 * 2 ^ count 64 (bit w) → m ≡ put l 0 (rowsBytes (walk (count 64 (bit w)) w t)) → length m ≡ length l
-        → branches ≡ end / 24 → after ≡ take end m ++ zeros (length m - end)
-        → Gives (multiplied Lc La Rc Ra (length l)) (wrote end branches) after
-    unfolding multiplied put rows
-    gives-rows t end branches m after et ee em el eb ea = record {
-      answer = rw (full, le-ltb (length l) _ room) (ap₂ wrote (at-end ∙ sym size) (eb ∙ ap (λ (n : ℕ). n / 24) at-end ∙ mul-div-cancel-left (2 ^ count 64 (branching Lc La Rc Ra)) (lit< tt) ∙ sym (rows-number (pos 1) full)));
-      bytes = ea ∙ rw (full, le-ltb (length l) _ room) (ap₂ (λ (x y : List ℕ). x ++ y)
-          (ap (take end) (em ∙ ap (λ (ts : List Term). put l 0 (rowsBytes ts)) (walked t et)) ∙ take-at (rowsBytes rows) (drop (0 + length (rowsBytes rows)) l) end (size ∙ sym at-end))
-          (ap₂ (λ (n k : ℕ). zeros (n - k)) el (at-end ∙ sym size)));
-    }
-      where
-        at-end : end ≡ 24 * 2 ^ count 64 (branching Lc La Rc Ra)
-        at-end = ee ∙ zero-add _ ∙ ap (λ (n : ℕ). 24 * 2 ^ n) (branching-number Lc La Rc Ra w h is)
+  pub walk-is : (t : Term) → t ≡ rowTimes (h .«l_cre») (h .«l_ann») (h .«r_cre») (h .«r_ann») z 0 → walk (count 64 (bit w)) w t ≡ rowsOf h z
+  walk-is t e =
+      ap (walk (count 64 (bit w)) w) e ∙ walk-rows (h .«l_cre») (h .«l_ann») (h .«r_cre») (h .«r_ann») w small (f .modes) z
+      ∙ sym (rows-full (h .«l_cre») (h .«l_ann») (h .«r_cre») (h .«r_ann») z (f .full))
+
+  -- where no mode branches, there is one row
+  module _ (alone : w ≡ 0) where
+    pub one-fits : at + 24 ≤ room
+    one-fits = rw (none-left w alone) at walk-fits
+
+    pub one-ends : at + 24 ≡ at + 24 * length (rowsOf h z)
+    one-ends = rw (none-left w alone) at walk-ends
+
+    pub one-is : (t : Term) → t ≡ rowTimes (h .«l_cre») (h .«l_ann») (h .«r_cre») (h .«r_ann») z 0 → rowBytes t ≡ rowsBytes (rowsOf h z)
+    one-is t e = sym (walk-none w t alone) ∙ ap rowsBytes (walk-is t e)
+
+-- from the front of the output on
+module _ (h : ProductHelper) (w : ℕ) (small : w < 2 ^ 64) (room : ℕ) (f : Fitting h w room) where
+  pub from-front : Fitting h w (room - 0)
+  from-front = record { full = f .full; modes = f .modes; fit = omega (arith, f .fit) }
+
+  pub rows-room : 24 * 2 ^ count 64 (branching (h .«l_cre») (h .«l_ann») (h .«r_cre») (h .«r_ann»)) ≤ room
+  rows-room = rw (bifurcation-number (h .«l_cre») (h .«l_ann») (h .«r_cre») (h .«r_ann») w small (f .modes)) at (f .fit)
+
+  pub end-inside : (z : ℤ) (end len : ℕ) → end ≡ 0 + 24 * length (rowsOf h z) → len ≡ room → end ≤ len
+  end-inside z end len e k = omega (arith, e, k, rows-room, rows-number (h .«l_cre») (h .«l_ann») (h .«r_cre») (h .«r_ann») z (f .full))

@@ -65,13 +65,6 @@ pub walk-none : (left : ℕ) (t : Term) → left ≡ 0 → rowsBytes (walk (coun
 unfolding walk rowsBytes
 walk-none left t e = rw (none-left left e) (append-nil (rowBytes t))
 
--- the one row where no mode is left
-pub one-ends : (left : ℕ) → left ≡ 0 → 24 ≡ 0 + 24 * 2 ^ count 64 (bit left)
-one-ends left e = rw (none-left left e)
-
-pub one-fits : (left room : ℕ) → left ≡ 0 → 0 + 24 * 2 ^ count 64 (bit left) ≤ room → 0 + 24 ≤ room
-one-fits left room e h = rw (none-left left e) at h
-
 -- the bytes of both branches, one after the other
 module _ (left : ℕ) (t : Term) (some : 0 < left) (small : left < 2 ^ 64) (l : List ℕ) (at : ℕ) where
   less : ℕ

@@ -1,7 +1,7 @@
 // One term on one occupation word, and the rows of one product, by the phase rule.
 ghost use mathlib.Core.Path.{_≡_};
 ghost use mathlib.Core.Bool.{not};
-ghost use Prim.Native.Nat.{ℕ, _+_, _*_, _≤_, _<_, _^_};
+ghost use Prim.Native.Nat.{ℕ, _+_, _-_, _*_, _≤_, _<_, _^_};
 ghost use lib.Count.{ones};
 ghost use lib.Dec.{leb};
 ghost use lib.IntN.{natAbs};
@@ -14,7 +14,7 @@ ghost use Rattle.lent.specs.Outputs.{Gives};
 ghost use Rattle.products.specs.Apply.{applied};
 ghost use Rattle.products.specs.Operators.{signed};
 ghost use Rattle.products.specs.Product.{notEmpty, branching, rowTimes, multiplied};
-ghost use Rattle.products.specs.Fitting.{Fitting};
+ghost use Rattle.products.specs.Fitting.{Fitting, rowsOf};
 ghost use Rattle.products.specs.Walk.{One, keeping, walk};
 use modes::Refusal;
 use modes::Sign;
@@ -141,18 +141,6 @@ pub fn do_branch(out: &mut [u8], at: usize, left: u64, row: Term) -> usize
     do_branch(out, next, less, high)
 }
 
-// The walk from the front of the output. Most products have one row, which needs no call.
-fn walk_from(out: &mut [u8], left: u64, row: Term) -> usize
-    requires { ⌜ (0 + 24 * 2 ^ count 64 (bit left) ≤ length (now out)) × (natAbs (row .coeff) < 2 ^ 63) ⌝ }
-    ensures { λ r. ⌜ (r ≡ 0 + 24 * 2 ^ count 64 (bit left)) × (now (out .exit) ≡ put (now (out .entry)) 0 (rowsBytes (walk (count 64 (bit left)) left row))) ⌝ }
-{
-    if left == 0 {
-        lent::put_row(out, 0, row);
-        return 24;
-    }
-    do_branch(out, 0, left, row)
-}
-
 // The words of one product L R.
 pub struct ProductHelper {
     pub l_cre: u64,
@@ -201,7 +189,7 @@ impl ProductHelper {
 
 // Do the rows of the branching modes `left` fit in `room` bytes? A slice is shorter than 2^63 bytes, and 24 times 2^59 is
 // not. Most products have no branching mode, and their one row needs no count.
-fn rows_fit(left: u64, room: usize) -> bool
+pub fn rows_fit(left: u64, room: usize) -> bool
     requires { ⌜ room < 2 ^ 63 ⌝ }
     ensures { λ r. ⌜ (r ≡ leb (24 * 2 ^ ones left) room) ⌝ }
 {
@@ -215,12 +203,26 @@ fn rows_fit(left: u64, room: usize) -> bool
     (24usize << n_bif) <= room
 }
 
-// The rows to the front of the output, and zeros past them; `left` are the branching modes, and the rows fit.
+// The rows of the product, times `coeff`, from byte `at` on, and where they end; `left` are the branching modes, and the
+// rows fit. Most products have one row, which needs no walk.
+pub fn put_rows(out: &mut [u8], at: usize, helper: ProductHelper, left: u64, coeff: i64) -> usize
+    requires { ⌜ Fitting helper left (length (now out) - at) × (natAbs coeff < 2 ^ 63) ⌝ }
+    ensures { λ r. ⌜ (r ≡ at + 24 * length (rowsOf helper coeff)) × (now (out .exit) ≡ put (now (out .entry)) at (rowsBytes (rowsOf helper coeff))) ⌝ }
+{
+    let row = helper.lowest_row(coeff);
+    if left == 0 {
+        lent::put_row(out, at, row);
+        return at + 24;
+    }
+    do_branch(out, at, left, row)
+}
+
+// The rows to the front of the output, and zeros past them.
 fn write_rows(helper: ProductHelper, left: u64, out: &mut [u8]) -> Written
     requires { ⌜ Fitting helper left (length (now out)) ⌝ }
     ensures { λ r. ⌜ Gives (multiplied (helper .«l_cre») (helper .«l_ann») (helper .«r_cre») (helper .«r_ann») (length (now (out .entry)))) r (now (out .exit)) ⌝ }
 {
-    let end = walk_from(out, left, helper.lowest_row(1));
+    let end = put_rows(out, 0, helper, left, 1);
     lent::wipe_from(out, end);
     Written {
         refusal: Refusal::NONE,

@@ -1,38 +1,33 @@
--- `products::write_rows` meets its contract: the walk's rows are the product's, and zeros stand past them.
+-- `products::write_rows` meets its contract: the product's rows, and zeros past them.
 use mathlib.Core.Path.{refl}
+use lib.Dec.{lit<}
+use lib.IntN.{pos}
 use lib.ListN.{length}
-use Rattle.products.proofs.Multiplied.{room-for, end-inside, gives-rows}
+use Rattle.products.proofs.Multiplied.{from-front, rows-room, end-inside, gives-rows}
 use borrow.Author.Needs.{needs}
 use Rattle.products.proofs.write_rows.Statement.{statement}
 use Rattle.products.proofs.write_rows.Tie as tie
 
-lowest-row-requires : tie.Need-lowest-row-requires
-lowest-row-requires c κs = search needs
-
-walk-from-requires : tie.Need-walk-from-requires
-walk-from-requires c κs =
-    let s = c .before .before .before in (room-for (s .args .left) (length (s .args .out .now)) (s .fits .left .fits) (s .pre .fit), c .lowest-row .ensures .1)
+put-rows-requires : tie.Need-put-rows-requires
+put-rows-requires c κs =
+    let s = c .before .before in (from-front (s .args .helper) _ (s .fits .left .fits) (length (s .args .out .now)) (s .pre), lit< tt)
 
 wipe-from-requires : tie.Need-wipe-from-requires
 wipe-from-requires c κs =
-    let s = c .before .before .before .before .before .before .before in
-    let walked = c .before .before .before .walk-from in
-    end-inside (s .args .left) (length (s .args .out .now)) (walked .result) (length (walked .last .0)) (s .fits .left .fits) (s .pre .fit) (walked .ensures .0) (walked .kept .0)
+    let s = c .before .before .before .before .before .before in
+    let put = c .before .before .before .put-rows in
+    end-inside (s .args .helper) _ (s .fits .left .fits) (length (s .args .out .now)) (s .pre) (pos 1) _ (length (put .last .0)) (put .ensures .0) (put .kept .0)
 
 same-length : tie.Need-same-length
 same-length c = search needs
 
 returns : tie.Need-returns
 returns c =
-    let s = c .before .before .before .before .before .before .before .before .before .before in
-    let row = c .before .before .before .before .before .before .before .lowest-row in
-    let walked = c .before .before .before .before .before .before .walk-from in
-    let wiped = c .before .before .wipe-from in
-    gives-rows (s .args .helper .«l_cre») (s .args .helper .«l_ann») (s .args .helper .«r_cre») (s .args .helper .«r_ann») (s .args .out .now) (s .pre .full) (s .args .left) (s .fits .left .fits) (s .pre .modes) (s .pre .fit)
-    (row .result) (walked .result) _ (walked .last .0) (wiped .last .0)
-    (row .ensures .0) (walked .ensures .0) (walked .ensures .1) (walked .kept .0) refl (wiped .ensures)
+    let s = c .before .before .before .before .before .before .before .before .before in
+    let put = c .before .before .before .before .before .before .put-rows in
+    let h = s .args .helper in
+    gives-rows (h .«l_cre») (h .«l_ann») (h .«r_cre») (h .«r_ann») (s .args .out .now) (s .pre .full) (rows-room h _ (s .fits .left .fits) (length (s .args .out .now)) (s .pre))
+    (put .result) _ (put .last .0) _ (put .ensures .0) (put .ensures .1) (put .kept .0) refl (c .before .before .wipe-from .ensures)
 
 pub write-rows-spec : {M : Type 1} → statement M
-write-rows-spec =
-    tie.close
-    (tie.spec lowest-row-requires walk-from-requires wipe-from-requires same-length returns)
+write-rows-spec = tie.close (tie.spec put-rows-requires wipe-from-requires same-length returns)

@@ -1,0 +1,62 @@
+-- `multiply::append_pair` meets its contract: the coefficients are the product, and the product with the sign.
+use mir.Facts.{toZ-ofZ}
+use Rattle.multiply.specs.Products.{pairRows}
+use Rattle.multiply.specs.Filling.{Adds}
+use Rattle.multiply.proofs.Appending.{appended-as}
+use Rattle.multiply.proofs.Filling.{product-adds}
+use Rattle.multiply.proofs.Pairing.{product-below, swapped-below, one-order, both-orders}
+use borrow.Author.Needs.{needs}
+use Rattle.multiply.proofs.append_pair.Statement.{statement}
+use Rattle.multiply.proofs.append_pair.Tie as tie
+
+product-requires : tie.Need-product-requires
+product-requires c κs = search needs
+
+signed-coeff-requires : tie.Need-signed-coeff-requires
+signed-coeff-requires c κs =
+    let s = c .before .before .before .before .before in
+    product-below (s .args .sign .0) (s .args .t) (s .args .u) (record { sfits = c .before .before .before .struct-told .given .1 .1 .0 .1 }) (record { sfits = c .before .before .struct-told2 .given .1 .1 .0 .1 }) (s .pre .1) _ (c .before .product .ensures)
+
+append-both-requires : tie.Need-append-both-requires
+append-both-requires c κs =
+    let s = c .before .before .before .before .before .before .before in
+    (s .pre .0, product-below (s .args .sign .0) (s .args .t) (s .args .u) (record { sfits = c .before .before .before .before .before .struct-told .given .1 .1 .0 .1 }) (record { sfits = c .before .before .before .before .struct-told2 .given .1 .1 .0 .1 }) (s .pre .1) _ (c .before .before .before .product .ensures), swapped-below (s .args .sign .0) (s .args .t) (s .args .u) (record { sfits = c .before .before .before .before .before .struct-told .given .1 .1 .0 .1 }) (record { sfits = c .before .before .before .before .struct-told2 .given .1 .1 .0 .1 }) (s .pre .1) _ (c .before .before .before .product .ensures) _ (c .before .signed-coeff .ensures))
+
+same-length : tie.Need-same-length
+same-length c = search needs
+
+returns : tie.Need-returns
+returns c =
+    let s = c .before .before .before .before .before .before .before .before .before .before in
+    rw (c .before .before .before .before .before .if1 .taken) (both-orders (s .args .sign .0) (s .args .t) (s .args .u) (record { sfits = c .before .before .before .before .before .before .before .before .struct-told .given .1 .1 .0 .1 }) (record { sfits = c .before .before .before .before .before .before .before .struct-told2 .given .1 .1 .0 .1 }) (s .pre .1) _ (c .before .before .before .before .before .before .product .ensures) _ (c .before .before .before .before .signed-coeff .ensures) (c .before .before .append-both .ensures))
+
+helper-of-requires : tie.Need-helper-of-requires
+helper-of-requires c κs = search needs
+
+append-requires : tie.Need-append-requires
+append-requires c κs =
+    let s = c .before .before .before .before .before .before .before in
+    (s .pre .0, product-below (s .args .sign .0) (s .args .t) (s .args .u) (record { sfits = c .before .before .before .before .before .struct-told .given .1 .1 .0 .1 }) (record { sfits = c .before .before .before .before .struct-told2 .given .1 .1 .0 .1 }) (s .pre .1) _ (c .before .before .before .product .ensures))
+
+same-length-2 : tie.Need-same-length-2
+same-length-2 c = search needs
+
+returns-2 : tie.Need-returns-2
+returns-2 c =
+    let s = c .before .before .before .before .before .before .before .before .before .before in
+    let one = c .before .before .append in
+    rw (c .before .before .before .before .before .if1 .left) (one-order (s .args .sign .0) (s .args .t) (s .args .u) (record { sfits = c .before .before .before .before .before .before .before .before .struct-told .given .1 .1 .0 .1 }) (record { sfits = c .before .before .before .before .before .before .before .struct-told2 .given .1 .1 .0 .1 }) (s .pre .1) _ (c .before .before .before .before .before .before .product .ensures) (product-adds _ (s .args .work .now) (s .args .s) (one .last .0) (one .result) (s .pre .0) (one .kept .0) (appended-as (s .args .t) (s .args .u) (c .before .before .before .before .before .before .product .result) _ (c .before .before .before .helper-of .ensures) (record { sfits = c .before .before .before .before .before .before .product .ok }) (one .ensures))))
+
+pub append-pair-spec : {M : Type 1} → statement M
+append-pair-spec =
+    tie.close
+    (tie.spec
+    product-requires
+    signed-coeff-requires
+    append-both-requires
+    same-length
+    returns
+    helper-of-requires
+    append-requires
+    same-length-2
+    returns-2)

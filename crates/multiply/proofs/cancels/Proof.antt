@@ -1,0 +1,32 @@
+-- `multiply::cancels` meets its contract: sizes alike and numbers not, so the numbers are opposite.
+use mathlib.Core.Path.{sym}
+use mathlib.Core.Bool.{true≢false}
+use Rattle.multiply.proofs.Standing.{opposite-rows}
+use borrow.Author.Needs.{needs}
+use Rattle.multiply.proofs.cancels.Statement.{statement}
+use Rattle.multiply.proofs.cancels.Tie as tie
+
+returns : tie.Need-returns
+returns c = λ e. absurd (true≢false (sym e))
+
+returns-2 : tie.Need-returns-2
+returns-2 c = λ e. absurd (true≢false (sym e))
+
+returns-3 : tie.Need-returns-3
+returns-3 c = λ e. absurd (true≢false (sym e))
+
+magnitude-requires : tie.Need-magnitude-requires
+magnitude-requires c κs = search needs
+
+magnitude-requires-2 : tie.Need-magnitude-requires-2
+magnitude-requires-2 c κs = search needs
+
+returns-4 : tie.Need-returns-4
+returns-4 c = λ e.
+    let s = c .before .before .before .before .before .before .before .before .before .before .before .before .before .before .before in
+    opposite-rows (s .args .x) (s .args .y) (record { sfits = c .before .before .before .struct-told3 .given .1 .1 .0 .1 }) (record { sfits = c .before .struct-told4 .given .1 .1 .0 .1 }) (c .before .before .before .before .before .before .before .before .before .before .before .before .if1 .left) (c .before .before .before .before .before .before .before .before .before .if2 .left) (c .before .before .before .before .if3 .left) _ _ (c .before .before .magnitude .ensures .0) (c .magnitude2 .ensures .0) e
+
+pub cancels-spec : {M : Type 1} → statement M
+cancels-spec =
+    tie.close
+    (tie.spec returns returns-2 returns-3 magnitude-requires magnitude-requires-2 returns-4)

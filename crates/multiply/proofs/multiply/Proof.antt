@@ -1,0 +1,25 @@
+-- `multiply::multiply` meets its contract: the answer, and then the work wiped.
+use borrow.Author.Needs.{needs}
+use mathlib.Core.Path.{ap, _∙_}
+use Rattle.lent.specs.Bytes.{zeros}
+use Rattle.multiply.proofs.multiply.Statement.{statement}
+use Rattle.multiply.proofs.multiply.Tie as tie
+
+produce-requires : tie.Need-produce-requires
+produce-requires c κs = search needs
+
+wipe-requires : tie.Need-wipe-requires
+wipe-requires c κs = search needs
+
+same-length : tie.Need-same-length
+same-length c = search needs
+
+same-length-2 : tie.Need-same-length-2
+same-length-2 c = search needs
+
+returns : tie.Need-returns
+returns c = record { output = c .before .before .before .before .before .before .before .before .produce .ensures; clean = c .before .before .wipe .ensures ∙ ap zeros (c .before .before .before .before .before .before .before .before .produce .kept .1 .1 .1 .1 .0) }
+
+pub multiply-spec : {M : Type 1} → statement M
+multiply-spec =
+    tie.close (tie.spec produce-requires wipe-requires same-length same-length-2 returns)

@@ -1,0 +1,68 @@
+-- `multiply::put_terms` meets its contract: the rows so far stand in their columns.
+use Prim.Native.Nat.{_-_, _≤_}
+use native.Mathlib.Omega.{arith}
+use Rattle.multiply.proofs.Delivering.{Spreading, spreading-starts, spreading-room, spreading-goes, spreading-ends}
+use borrow.Author.Needs.{needs}
+use Rattle.multiply.proofs.put_terms.Statement.{statement}
+use Rattle.multiply.proofs.put_terms.Tie as tie
+
+abbrev Inv-loop : tie.InvT-loop
+Inv-loop work n out₀ i₀ out i = (i ≤ n) × Spreading work n out₀ i out
+
+abbrev μ-loop : tie.MeasureT-loop
+μ-loop work n out₀ i₀ out i = n - i
+
+loop-holds : tie.Need-loop-holds Inv-loop μ-loop
+loop-holds c = let s = c .before .before in (search needs, spreading-starts (s .args .work .now) (s .args .n) (s .args .out .now) (s .pre .1))
+
+mul-get-row : tie.Need-mul-get-row Inv-loop μ-loop
+mul-get-row c = search needs
+
+get-row-requires : tie.Need-get-row-requires Inv-loop μ-loop
+get-row-requires c κs = search needs
+
+put-term-requires : tie.Need-put-term-requires Inv-loop μ-loop
+put-term-requires c κs =
+    let s = c .before .before .before .before .before .before in
+    let v = c .before .before .before .loop in
+    (omega (arith, spreading-room (s .args .work .now) (s .args .n) (s .args .out .now) (s .pre .1) (v .i) (v .out) (v .inv .1) (v .inv .0), s .pre .1), omega (arith, c .before .before .loop-test))
+
+add-i : tie.Need-add-i Inv-loop μ-loop
+add-i c = search needs
+
+loop-less : tie.Need-loop-less Inv-loop μ-loop
+loop-less c = search needs
+
+loop-again : tie.Need-loop-again Inv-loop μ-loop
+loop-again c =
+    let s = c .before .before .before .before .before .before .before .before .before in
+    let v = c .before .before .before .before .before .before .loop in
+    (omega (arith, c .before .before .before .before .before .loop-test), spreading-goes (s .args .work .now) (s .args .n) (s .args .out .now) (s .pre .1) (v .i) (v .out) (v .inv .1) (omega (arith, c .before .before .before .before .before .loop-test)) _ (c .before .before .before .get-row .ensures .0) _ (c .before .before .put-term .ensures))
+
+same-length : tie.Need-same-length Inv-loop μ-loop
+same-length c =
+    let s = c .before .before .before .before in
+    let v = c .before .loop in
+    spreading-room (s .args .work .now) (s .args .n) (s .args .out .now) (s .pre .1) (v .i) (v .out) (v .inv .1) (v .inv .0)
+
+returns : tie.Need-returns Inv-loop μ-loop
+returns c =
+    let s = c .before .before .before .before in
+    let v = c .before .loop in
+    spreading-ends (s .args .work .now) (s .args .n) (s .args .out .now) (s .pre .1) (v .i) (v .out) (v .inv .1) (v .inv .0) (omega arith)
+
+pub put-terms-spec : {M : Type 1} → statement M
+put-terms-spec =
+    tie.close
+    (tie.spec
+    Inv-loop
+    μ-loop
+    loop-holds
+    mul-get-row
+    get-row-requires
+    put-term-requires
+    add-i
+    loop-less
+    loop-again
+    same-length
+    returns)

@@ -1,0 +1,53 @@
+-- What the product, the commutator and the anticommutator of two records answer, and the whole output at their end.
+use mathlib.Core.Path.{_≡_}
+use mathlib.Core.Bool.{Bool, true, false, cond}
+use mathlib.Core.List.{List}
+use Prim.Native.Nat.{ℕ, _*_, _^_}
+use lib.Dec.{leb}
+use lib.ListN.{length}
+use Rattle.modes.specs.declared.Refusal.{Refusal}
+use Rattle.modes.specs.declared.Written.{Written}
+use Rattle.modes.specs.Answers.{refusal, none}
+use Rattle.lent.specs.Bytes.{zeros}
+use Rattle.lent.specs.Outputs.{Output, Gives}
+use Rattle.record.specs.Terms.{weight}
+use Rattle.record.specs.Layout.{modesOf, termsOf}
+use Rattle.record.specs.Refusals.{orElse}
+use Rattle.lincomb.specs.Normal.{normal}
+use Rattle.lincomb.specs.Results.{pairRefusal, resultOf}
+use Rattle.multiply.specs.Products.{allRows, allBranches}
+
+-- 8: the product of the two weights
+unfoldable pub weightRefusal : ℕ → ℕ → Refusal
+weightRefusal v w = cond (leb (v * w) (2 ^ 60)) none (refusal 8 0 0)
+
+-- 7: one row of work a branch
+unfoldable pub workRefusal : ℕ → ℕ → Refusal
+workRefusal room branches = cond (leb (24 * branches) room) none (refusal 7 0 0)
+
+-- both records and 6, then 8, then 7
+abbrev pub earlyRefusal : Bool → ℕ → List ℕ → List ℕ → Refusal
+earlyRefusal both work a b =
+    orElse (pairRefusal a b) (orElse (weightRefusal (weight (termsOf a)) (weight (termsOf b))) (workRefusal work (allBranches both (termsOf a) (termsOf b))))
+
+-- for a work of `work` bytes and an output of `room` bytes
+abbrev pub productAnswer : Bool → Bool → ℕ → ℕ → List ℕ → List ℕ → Output
+productAnswer both minus work room a b =
+    resultOf room (allBranches both (termsOf a) (termsOf b)) (earlyRefusal both work a b) (modesOf a) (normal (allRows both minus (termsOf a) (termsOf b)))
+
+-- a b
+abbrev pub productOf : ℕ → ℕ → List ℕ → List ℕ → Output
+productOf = productAnswer false false
+
+-- a b - b a
+abbrev pub commutatorOf : ℕ → ℕ → List ℕ → List ℕ → Output
+commutatorOf = productAnswer true true
+
+-- a b + b a
+abbrev pub anticommutatorOf : ℕ → ℕ → List ℕ → List ℕ → Output
+anticommutatorOf = productAnswer true false
+
+-- the answer r, the output after and the work at the end: the value's, and a work all zero
+pub record Leaves (o : Output) (r : Written) (after : List ℕ) (room : ℕ) (work : List ℕ) : Type 0 where
+  pub output : Gives o r after
+  pub clean : work ≡ zeros room

@@ -1,0 +1,71 @@
+-- `products::put_rows` meets its contract: the walk's rows are the product's, and where no mode branches there is one.
+use mathlib.Core.Path.{_≡_, ap, _∙_}
+use mathlib.Core.List.{List}
+use lib.IntN.{ℤ}
+use lib.ListN.{length}
+use mir.Syntax.{w64}
+use mir.Val.{SFits, toZ, ofZ}
+use mir.Facts.{toZ-ofZ}
+use Rattle.modes.specs.declared.Term.{Term}
+use Rattle.lent.specs.Bytes.{put}
+use Rattle.lent.specs.Rows.{rowsBytes}
+use Rattle.products.specs.Product.{rowTimes}
+use Rattle.products.specs.declared.ProductHelper.{ProductHelper}
+use Rattle.products.proofs.Multiplied.{walk-fits, walk-ends, walk-is, one-fits, one-ends, one-is}
+use borrow.Author.Needs.{needs}
+use Rattle.products.proofs.put_rows.Statement.{statement}
+use Rattle.products.proofs.put_rows.Tie as tie
+
+-- the coefficient is a number of 64 bits, which its bits give back
+lowest : (h : ProductHelper) {z : ℤ} → SFits w64 z → (t : Term) → t ≡ rowTimes (h .«l_cre») (h .«l_ann») (h .«r_cre») (h .«r_ann») (toZ w64 (ofZ w64 z)) 0
+    → t ≡ rowTimes (h .«l_cre») (h .«l_ann») (h .«r_cre») (h .«r_ann») z 0
+lowest h fits t e = e ∙ ap (λ (z : ℤ). rowTimes (h .«l_cre») (h .«l_ann») (h .«r_cre») (h .«r_ann») z 0) (toZ-ofZ fits)
+
+lowest-row-requires : tie.Need-lowest-row-requires
+lowest-row-requires c κs = search needs
+
+put-row-requires : tie.Need-put-row-requires
+put-row-requires c κs =
+    let s = c .before .before .before .before in
+    one-fits (s .args .helper) _ (s .fits .left .fits) (s .args .coeff) _ (length (s .args .out .now)) (s .pre .0) (c .before .if1 .taken)
+
+add-result : tie.Need-add-result
+add-result c =
+    let s = c .before .before .before .before .before .before .before in
+    let fits = one-fits (s .args .helper) _ (s .fits .left .fits) (s .args .coeff) _ (length (s .args .out .now)) (s .pre .0) (c .before .before .before .before .if1 .taken) in
+    search needs
+
+same-length : tie.Need-same-length
+same-length c = search needs
+
+returns : tie.Need-returns
+returns c =
+    let s = c .before .before .before .before .before .before .before in
+    let none = c .before .before .before .before .if1 .taken in (
+      one-ends (s .args .helper) _ (s .fits .left .fits) (s .args .coeff) _ (length (s .args .out .now)) (s .pre .0) none,
+      c .before .before .put-row .ensures
+          ∙ ap (put (s .args .out .now) _) (one-is (s .args .helper) _ (s .fits .left .fits) (s .args .coeff) _ (length (s .args .out .now)) (s .pre .0) none _ (lowest (s .args .helper) (s .fits .coeff) _ (c .before .before .before .before .before .lowest-row .ensures .0))),
+    )
+
+do-branch-requires : tie.Need-do-branch-requires
+do-branch-requires c κs =
+    let s = c .before .before .before .before in
+    (walk-fits (s .args .helper) _ (s .fits .left .fits) (s .args .coeff) _ (length (s .args .out .now)) (s .pre .0), c .before .before .lowest-row .ensures .1)
+
+same-length-2 : tie.Need-same-length-2
+same-length-2 c = search needs
+
+returns-2 : tie.Need-returns-2
+returns-2 c =
+    let s = c .before .before .before .before .before .before .before in
+    let walked = c .before .before .do-branch .ensures in (
+      walked .0 ∙ walk-ends (s .args .helper) _ (s .fits .left .fits) (s .args .coeff) _ (length (s .args .out .now)) (s .pre .0),
+      walked .1
+          ∙ ap (λ (ts : List Term). put (s .args .out .now) (s .args .at) (rowsBytes ts))
+          (walk-is (s .args .helper) _ (s .fits .left .fits) (s .args .coeff) _ (length (s .args .out .now)) (s .pre .0) _ (lowest (s .args .helper) (s .fits .coeff) _ (c .before .before .before .before .before .lowest-row .ensures .0))),
+    )
+
+pub put-rows-spec : {M : Type 1} → statement M
+put-rows-spec =
+    tie.close
+    (tie.spec lowest-row-requires put-row-requires add-result same-length returns do-branch-requires same-length-2 returns-2)
