@@ -80,7 +80,7 @@ module _ (minus : Bool) (a b out : List ℕ) (p : Opened) (ep : p ≡ openedOf a
 inside-turn : (m : ℕ) (minus : Bool) (t : Term) → Inside m t → Inside m (turn minus t)
 inside-turn m minus t h = record { ann = h .ann; cre = h .cre }
 
-inside-joins : (m : ℕ) (t u : Term) → Inside m t → Inside m u → Inside m (join t u)
+pub inside-joins : (m : ℕ) (t u : Term) → Inside m t → Inside m u → Inside m (join t u)
 unfolding join
 inside-joins m t u h k = record { ann = k .ann; cre = k .cre }
 

@@ -175,7 +175,7 @@ adds-zero : (bra : ℕ) (o : Outcome) → adds bra (pos 0) o ≡ pos 0
 adds-zero bra gone = refl
 adds-zero bra (went w s) = ap (λ (z : ℤ). cond (eqb w bra) z (pos 0)) (signed-zero s) ∙ where-zero (eqb w bra)
 
-adds-signed : (bra : ℕ) (minus : Bool) (z : ℤ) (o : Outcome) → adds bra (signed minus z) o ≡ signed minus (adds bra z o)
+pub adds-signed : (bra : ℕ) (minus : Bool) (z : ℤ) (o : Outcome) → adds bra (signed minus z) o ≡ signed minus (adds bra z o)
 adds-signed bra minus z gone = sym (signed-zero minus)
 adds-signed bra minus z (went w s) =
     ap (λ (x : ℤ). cond (eqb w bra) x (pos 0)) (signed-twice s minus z) ∙ where-signed (eqb w bra) minus (signed s z)

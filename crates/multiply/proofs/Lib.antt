@@ -6,3 +6,6 @@ pub mod Delivering
 pub mod Refusing
 pub mod Counting
 pub mod Answering
+pub mod Elements
+pub mod Theorems
+pub mod Unique

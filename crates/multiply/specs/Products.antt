@@ -40,11 +40,15 @@ unfoldable pub allBranches : Bool → List Term → List Term → ℕ
 allBranches both [] us = 0
 allBranches both (t ∷ ts) us = branchesWith both t us + allBranches both ts us
 
--- what the operator us and then the operator ts give at (bra, ket), ladder by ladder: the sum over their terms
-unfoldable pub thenTerm : ℕ → ℕ → Term → List Term → ℤ
-thenTerm bra ket t [] = pos 0
-thenTerm bra ket t (u ∷ us) = adds bra (t .coeff *ℤ u .coeff) (term (t .cre) (t .ann) (term (u .cre) (u .ann) (went ket false))) +ℤ thenTerm bra ket t us
+-- what u and then t give at (bra, ket), ladder by ladder
+abbrev pub pairInTurn : ℕ → ℕ → Term → Term → ℤ
+pairInTurn bra ket t u = adds bra (t .coeff *ℤ u .coeff) (term (t .cre) (t .ann) (term (u .cre) (u .ann) (went ket false)))
+
+-- what one operator, us, and then another, ts, give: the sum over their terms
+unfoldable pub withInTurn : ℕ → ℕ → Term → List Term → ℤ
+withInTurn bra ket t [] = pos 0
+withInTurn bra ket t (u ∷ us) = pairInTurn bra ket t u +ℤ withInTurn bra ket t us
 
 unfoldable pub inTurn : ℕ → ℕ → List Term → List Term → ℤ
 inTurn bra ket [] us = pos 0
-inTurn bra ket (t ∷ ts) us = thenTerm bra ket t us +ℤ inTurn bra ket ts us
+inTurn bra ket (t ∷ ts) us = withInTurn bra ket t us +ℤ inTurn bra ket ts us

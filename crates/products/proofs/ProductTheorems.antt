@@ -4,7 +4,8 @@ use mathlib.Core.Bool.{Bool, true, false, not, cond, _&&_, _||_, true≢false}
 use mathlib.Core.List.{List, [], _∷_, _++_, map}
 use Prim.Native.Nat.{ℕ, _-_, _*_, _^_, _<_}
 use native.Mathlib.Omega.{arith}
-use lib.Bits.{bitAnd, bitOr, bitXor, or-lt, xor-lt, and-lt}
+use native.Mathlib.Nat.{le-trans, le-of-eq, lt-of-le-of-lt}
+use lib.Bits.{bitAnd, bitOr, bitXor, or-lt, xor-lt, and-lt, and-le-r}
 use lib.Dec.{ltb, lit<}
 use lib.IntN.{ℤ, pos, natAbs}
 use lib.ListN.{length}
@@ -15,7 +16,7 @@ use Rattle.modes.specs.Answers.{refusal}
 use Rattle.modes.specs.declared.Written.{Written}
 use Rattle.modes.specs.declared.Term.{Term}
 use Rattle.modes.proofs.Bools.{of-same, at5}
-use Rattle.modes.proofs.Digits.{bit-none, ext}
+use Rattle.modes.proofs.Digits.{bit-and, bit-none, ext}
 use Rattle.lent.specs.Bytes.{zeros}
 use Rattle.lent.specs.Every.{Every, none, more}
 use Rattle.lent.specs.Rows.{rowsBytes, rowsAt, Fit}
@@ -83,15 +84,39 @@ module _ (Lc La Rc Ra : ℕ) where
           parts (choices-differ 64 0 (branching Lc La Rc Ra) 0)
       go false = tt
 
+  -- ---- a row holds only modes that the four words hold
+
+  module _ (m : ℕ) (hLc : Lc < 2 ^ m) (hLa : La < 2 ^ m) (hRc : Rc < 2 ^ m) (hRa : Ra < 2 ^ m) where
+    -- a branching mode is one of L's annihilations
+    held-digit : (lc la rc ra s : Bool) → not s || branch lc la rc ra ≡ true → s ≡ s && la
+    held-digit lc la rc ra s e = of-same _ _ (mp _ _ (at5 (λ lc la rc ra s. imp (not s || branch lc la rc ra) (same s (s && la))) refl lc la rc ra s) e)
+
+    kept-small : (S : ℕ) → Part 64 (branching Lc La Rc Ra) S → S < 2 ^ m
+    kept-small S h =
+        let part : S ≡ bitAnd S La = ext S (bitAnd S La) (λ p. held-digit (bit Lc p) (bit La p) (bit Rc p) (bit Ra p) (bit S p) (h .inside p) ∙ sym (bit-and S La p)) in
+        lt-of-le-of-lt (le-trans (le-of-eq part) (and-le-r S La)) hLa
+
+    pub row-within : (z : ℤ) (S : ℕ) → Part 64 (branching Lc La Rc Ra) S → ((rowTimes Lc La Rc Ra z S) .ann < 2 ^ m) × ((rowTimes Lc La Rc Ra z S) .cre < 2 ^ m)
+    row-within z S h = (
+      or-lt m (bitOr Ra (bitXor La (bitAnd La Rc))) S (or-lt m Ra (bitXor La (bitAnd La Rc)) hRa (xor-lt m La (bitAnd La Rc) hLa (and-lt m La Rc hLa hRc))) (kept-small S h),
+      or-lt m (bitOr Lc (bitXor Rc (bitAnd La Rc))) S (or-lt m Lc (bitXor Rc (bitAnd La Rc)) hLc (xor-lt m Rc (bitAnd La Rc) hRc (and-lt m La Rc hLa hRc))) (kept-small S h),
+    )
+
+    pub rows-within : (z : ℤ) → Every (λ t. (t .ann < 2 ^ m) × (t .cre < 2 ^ m)) (rowsTimes Lc La Rc Ra z)
+    unfolding rowsTimes
+    rows-within z = go (notEmpty Lc La Rc Ra)
+      where
+        go : (b : Bool) → Every (λ t. (t .ann < 2 ^ m) × (t .cre < 2 ^ m)) (cond b (map (rowTimes Lc La Rc Ra z) (choices 64 0 (branching Lc La Rc Ra) 0)) [])
+        go true = every-map (λ t. (t .ann < 2 ^ m) × (t .cre < 2 ^ m)) (rowTimes Lc La Rc Ra z) (choices 64 0 (branching Lc La Rc Ra) 0) (each-map (Part 64 (branching Lc La Rc Ra)) (λ S. ((rowTimes Lc La Rc Ra z S) .ann < 2 ^ m) × ((rowTimes Lc La Rc Ra z S) .cre < 2 ^ m)) (choices 64 0 (branching Lc La Rc Ra) 0) (row-within z) parts)
+        go false = none
+
   -- ---- the rows that the output holds
 
   module _ (hLc : Lc < 2 ^ 64) (hLa : La < 2 ^ 64) (hRc : Rc < 2 ^ 64) (hRa : Ra < 2 ^ 64) where
     row-fits : (z : ℤ) → natAbs z < 2 ^ 63 → (S : ℕ) → Part 64 (branching Lc La Rc Ra) S → Fit (rowTimes Lc La Rc Ra z S)
-    row-fits z l S h = record {
-      ann = or-lt 64 (bitOr Ra (bitXor La (bitAnd La Rc))) S (or-lt 64 Ra (bitXor La (bitAnd La Rc)) hRa (xor-lt 64 La (bitAnd La Rc) hLa (and-lt 64 La Rc hLa hRc))) (h .small);
-      cre = or-lt 64 (bitOr Lc (bitXor Rc (bitAnd La Rc))) S (or-lt 64 Lc (bitXor Rc (bitAnd La Rc)) hLc (xor-lt 64 Rc (bitAnd La Rc) hRc (and-lt 64 La Rc hLa hRc))) (h .small);
-      coeff = abs-fits (signed (minusAt Lc La Rc Ra S) z) (rw (abs-signed (minusAt Lc La Rc Ra S) z) l);
-    }
+    row-fits z l S h =
+        let small = row-within 64 hLc hLa hRc hRa z S h in
+        record { ann = small .0; cre = small .1; coeff = abs-fits (signed (minusAt Lc La Rc Ra S) z) (rw (abs-signed (minusAt Lc La Rc Ra S) z) l) }
 
     pub rows-fit : (z : ℤ) → natAbs z < 2 ^ 63 → Every Fit (rowsTimes Lc La Rc Ra z)
     unfolding rowsTimes

@@ -1,0 +1,127 @@
+-- What `mul`, `commutator` and `anticommutator` leave where they do not refuse: a record that is accepted, with the elements that the two operators in turn give.
+use mathlib.Core.Path.{_≡_, ap, _∙_}
+use mathlib.Core.Bool.{Bool, true, false, cond}
+use mathlib.Core.List.{List, [], _∷_}
+use Prim.Native.Nat.{ℕ, _^_, _≤_, _<_}
+use native.Mathlib.Nat.{lt-of-lt-of-le}
+use lib.IntN.{ℤ, negℤ, _+ℤ_, _*ℤ_, +ℤ-idr}
+use lib.ListN.{take}
+use lib.Pow.{pow-mono}
+use Rattle.modes.specs.declared.Term.{Term}
+use Rattle.modes.specs.declared.Refusal.{Refusal}
+use Rattle.modes.specs.declared.Written.{Written}
+use Rattle.modes.specs.Answers.{none}
+use Rattle.lent.specs.Every.{Every, none as nothing, more}
+use Rattle.lent.specs.Outputs.{Gives}
+use Rattle.products.specs.Operators.{signed, element}
+use Rattle.products.specs.Product.{rowsTimes}
+use Rattle.products.proofs.ProductTheorems.{rows-within}
+use Rattle.record.specs.Terms.{weight}
+use Rattle.record.specs.Layout.{modesOf, termsOf}
+use Rattle.record.specs.Refusals.{orElse, refusalOf}
+use Rattle.record.specs.Canonical.{Inside, Canonical}
+use Rattle.record.proofs.Accepted.{neither, accepted-canonical}
+use Rattle.lincomb.specs.Normal.{join, normal}
+use Rattle.lincomb.specs.Results.{pairRefusal}
+use Rattle.lincomb.proofs.Totals.{element-normal}
+use Rattle.lincomb.proofs.Normal.{every-append, every-normal, normal-ascending, normal-nonzero}
+use Rattle.lincomb.proofs.Sums.{inside-joins}
+use Rattle.lincomb.proofs.Results.{first-fine, second-fine, same-modes, result-earlier, result-accepted, result-modes, result-terms}
+use Rattle.multiply.specs.Products.{pairRows, rowsWith, allRows, allBranches, inTurn}
+use Rattle.multiply.specs.Answers.{weightRefusal, workRefusal, earlyRefusal, productAnswer, productOf, commutatorOf, anticommutatorOf}
+use Rattle.multiply.proofs.Elements.{other, all-elements}
+
+-- ---- no row holds a mode that its two terms do not
+
+module _ (m : ℕ) where
+  rows-inside : (t u : Term) (z : ℤ) → Inside m t → Inside m u → Every (Inside m) (rowsTimes (t .cre) (t .ann) (u .cre) (u .ann) z)
+  rows-inside t u z ht hu = all (rowsTimes (t .cre) (t .ann) (u .cre) (u .ann) z) (rows-within (t .cre) (t .ann) (u .cre) (u .ann) m (ht .cre) (ht .ann) (hu .cre) (hu .ann) z)
+    where
+      all : (rs : List Term) → Every (λ r. (r .ann < 2 ^ m) × (r .cre < 2 ^ m)) rs → Every (Inside m) rs
+      all [] nothing = nothing
+      all (r ∷ rs) (more h hs) = more (record { ann = h .0; cre = h .1 }) (all rs hs)
+
+  module _ (both minus : Bool) where
+    pair-inside : (t u : Term) → Inside m t → Inside m u → Every (Inside m) (pairRows both minus t u)
+    unfolding pairRows
+    pair-inside t u ht hu = every-append _ _ (rows-inside t u (t .coeff *ℤ u .coeff) ht hu) (go both)
+      where
+        go : (b : Bool) → Every (Inside m) (cond b (rowsTimes (u .cre) (u .ann) (t .cre) (t .ann) (signed minus (t .coeff *ℤ u .coeff))) [])
+        go true = rows-inside u t (signed minus (t .coeff *ℤ u .coeff)) hu ht
+        go false = nothing
+
+    with-inside : (t : Term) (us : List Term) → Inside m t → Every (Inside m) us → Every (Inside m) (rowsWith both minus t us)
+    unfolding rowsWith
+    with-inside t [] ht nothing = nothing
+    with-inside t (u ∷ us) ht (more hu hus) = every-append (pairRows both minus t u) (rowsWith both minus t us) (pair-inside t u ht hu) (with-inside t us ht hus)
+
+    all-inside : (ts us : List Term) → Every (Inside m) ts → Every (Inside m) us → Every (Inside m) (allRows both minus ts us)
+    unfolding allRows
+    all-inside [] us nothing hus = nothing
+    all-inside (t ∷ ts) us (more ht hts) hus = every-append (rowsWith both minus t us) (allRows both minus ts us) (with-inside t us ht hus) (all-inside ts us hts hus)
+
+wider : (m : ℕ) → m ≤ 64 → (ts : List Term) → Every (Inside m) ts → Every (Inside 64) ts
+wider m h [] nothing = nothing
+wider m h (t ∷ ts) (more k ks) =
+    more (record { ann = lt-of-lt-of-le (k .ann) (pow-mono h); cre = lt-of-lt-of-le (k .cre) (pow-mono h) }) (wider m h ts ks)
+
+-- ---- the bytes that a call leaves where it is not refused
+
+module _ (both minus : Bool) (work room : ℕ) (a b : List ℕ) (r : Written) (after : List ℕ) (g : Gives (productAnswer both minus work room a b) r after)
+    (z : r .refusal .number ≡ 0) where
+  abbrev rows : List Term
+  rows = allRows both minus (termsOf a) (termsOf b)
+
+  abbrev branches : ℕ
+  branches = allBranches both (termsOf a) (termsOf b)
+
+  pair : (pairRefusal a b) .number ≡ 0
+  pair =
+      neither (pairRefusal a b) (orElse (weightRefusal (weight (termsOf a)) (weight (termsOf b))) (workRefusal work branches))
+      (result-earlier room branches (earlyRefusal both work a b) (modesOf a) (normal rows) r after g z) .0
+
+  left : Canonical (modesOf a) (termsOf a)
+  left = accepted-canonical 1 a (first-fine a b pair)
+
+  right : Every (Inside (modesOf a)) (termsOf b)
+  right = rw (same-modes a b pair) (accepted-canonical 2 b (second-fine a b pair) .inside)
+
+  within : Every (Inside (modesOf a)) (normal rows)
+  within = every-normal (inside-joins (modesOf a)) rows (all-inside (modesOf a) both minus (termsOf a) (termsOf b) (left .inside) right)
+
+  -- the output's record is accepted
+  pub product-accepted : (o : ℕ) → refusalOf o (take (r .len) after) ≡ none
+  product-accepted =
+      result-accepted room branches (earlyRefusal both work a b) (modesOf a) (normal rows) r after g z (left .some) (left .most) within (normal-ascending rows) (normal-nonzero rows)
+
+  pub product-modes : modesOf (take (r .len) after) ≡ modesOf a
+  product-modes =
+      result-modes room branches (earlyRefusal both work a b) (modesOf a) (normal rows) r after g z (left .some) (left .most) within (normal-ascending rows) (normal-nonzero rows)
+
+  product-terms : termsOf (take (r .len) after) ≡ normal rows
+  product-terms =
+      result-terms room branches (earlyRefusal both work a b) (modesOf a) (normal rows) r after g z (left .some) (left .most) within (normal-ascending rows) (normal-nonzero rows)
+
+  product-elements : (bra ket : ℕ) → element bra ket (termsOf (take (r .len) after))
+      ≡ inTurn bra ket (termsOf a) (termsOf b) +ℤ other both minus (inTurn bra ket (termsOf b) (termsOf a))
+  product-elements bra ket =
+      ap (element bra ket) product-terms ∙ element-normal bra ket rows
+      ∙ all-elements bra ket both minus (termsOf a) (termsOf b) (wider (modesOf a) (left .most) (termsOf a) (left .inside)) (wider (modesOf a) (left .most) (termsOf b) right)
+
+-- THE PRODUCT: at every bra and ket the record left has the element that b and then a give, ladder by ladder
+pub mul-elements : (work room : ℕ) (a b : List ℕ) (r : Written) (after : List ℕ) → Gives (productOf work room a b) r after → r .refusal .number ≡ 0 → (bra ket : ℕ)
+    → element bra ket (termsOf (take (r .len) after)) ≡ inTurn bra ket (termsOf a) (termsOf b)
+unfolding other
+mul-elements work room a b r after g z bra ket = product-elements false false work room a b r after g z bra ket ∙ +ℤ-idr (inTurn bra ket (termsOf a) (termsOf b))
+
+-- THE COMMUTATOR: minus the other order
+pub commutator-elements : (work room : ℕ) (a b : List ℕ) (r : Written) (after : List ℕ) → Gives (commutatorOf work room a b) r after → r .refusal .number ≡ 0 → (bra ket : ℕ)
+    → element bra ket (termsOf (take (r .len) after)) ≡ inTurn bra ket (termsOf a) (termsOf b) +ℤ negℤ (inTurn bra ket (termsOf b) (termsOf a))
+unfolding other
+commutator-elements = product-elements true true
+
+-- THE ANTICOMMUTATOR: plus the other order
+pub anticommutator-elements : (work room : ℕ) (a b : List ℕ) (r : Written) (after : List ℕ) → Gives (anticommutatorOf work room a b) r after → r .refusal .number ≡ 0 → (bra ket : ℕ)
+    → element bra ket (termsOf (take (r .len) after)) ≡ inTurn bra ket (termsOf a) (termsOf b) +ℤ inTurn bra ket (termsOf b) (termsOf a)
+unfolding other
+anticommutator-elements = product-elements true false
