@@ -7,6 +7,7 @@
 //! For each mode count and number of terms, two operators of two-body terms are drawn, half of the terms held by both.
 //! zixy adds f64 coefficients and makes its own set of terms; the library adds whole numbers, reads and checks two
 //! records and writes one.
+use programs::draw::Draw;
 use programs::timing::{self, Symbol, Timing, ROUNDS};
 use std::collections::BTreeMap;
 use std::hint::black_box;
@@ -18,25 +19,6 @@ use zixy::fermion::operator::normal::cmpnt_major::terms::Terms;
 
 type Add = unsafe extern "C" fn(*const u8, usize, *const u8, usize, *mut u8, usize, *mut u64);
 type Check = unsafe extern "C" fn(*const u8, usize, *mut u64);
-
-/// SplitMix64: seeded, the same on every machine.
-struct Draw(u64);
-
-impl Draw {
-    fn next(&mut self) -> u64 {
-        self.0 = self.0.wrapping_add(0x9e37_79b9_7f4a_7c15);
-        let z = (self.0 ^ (self.0 >> 30)).wrapping_mul(0xbf58_476d_1ce4_e5b9);
-        let z = (z ^ (z >> 27)).wrapping_mul(0x94d0_49bb_1331_11eb);
-        z ^ (z >> 31)
-    }
-
-    /// A word with two of m modes.
-    fn pair(&mut self, m: u64) -> u64 {
-        let p = self.next() % m;
-        let q = (p + 1 + self.next() % (m - 1)) % m;
-        1 << p | 1 << q
-    }
-}
 
 /// Terms by (annihilation, creation), with coefficients from 1 to 1,000.
 type Operator = BTreeMap<(u64, u64), i64>;
