@@ -47,9 +47,9 @@ pub record Running (bra ket : ℕ) (cre ann : List ℕ) (re im : List Float) (x 
   pub fine : firstOf (sumAt bra ket cre ann (re ∷ im ∷ [])) i ≡ none
 
 module _ (bra ket : ℕ) (cre ann : List ℕ) (re im : List Float) where
-  pub sums-start : Running bra ket cre ann re im plusZero plusZero 0
+  pub sums-start : (i : ℕ) → i ≡ 0 → Running bra ket cre ann re im plusZero plusZero i
   unfolding sumTo
-  sums-start = record { res = refl; ims = refl; fine = first-starts _ }
+  sums-start i e = rw e (record { res = refl; ims = refl; fine = first-starts _ })
 
   part-on : (cs : List Float) (i : ℕ) (x z : Float) → x ≡ sumTo bra ket cre ann cs i → z ≡ joined bra ket (getD cre i 0) (getD ann i 0) (getD cs i nan) x → z ≡ sumTo bra ket cre ann cs (suc i)
   unfolding sumTo
@@ -60,12 +60,9 @@ module _ (bra ket : ℕ) (cre ann : List ℕ) (re im : List Float) where
     at : (b : Bool) → allFinite (z ∷ w ∷ []) ≡ b → sumAt bra ket cre ann (re ∷ im ∷ []) i ≡ cond b none (refusal 13 1 i)
     at b e = rw (← part-on re i x z (so .res) ez, ← part-on im i y w (so .ims) ew, e)
 
-    pub sums-go : allFinite (z ∷ w ∷ []) ≡ true → Running bra ket cre ann re im z w (i + 1)
-    sums-go e = record {
-      res = rw add-one (part-on re i x z (so .res) ez);
-      ims = rw add-one (part-on im i y w (so .ims) ew);
-      fine = first-goes _ i (so .fine) (at true e);
-    }
+    pub sums-go : allFinite (z ∷ w ∷ []) ≡ true → (j : ℕ) → j ≡ i + 1 → Running bra ket cre ann re im z w j
+    sums-go f j e =
+        rw (e, add-one) (record { res = part-on re i x z (so .res) ez; ims = part-on im i y w (so .ims) ew; fine = rw add-one at (first-goes _ i (so .fine) (at true f)) })
 
     pub sums-stop : allFinite (z ∷ w ∷ []) ≡ false → i < length cre → _≡_ {A = Told} (record { refusal = refusal 13 1 i; values = [] }) (unless (sumRefusal bra ket cre ann (re ∷ im ∷ [])) (sumsTo bra ket cre ann (re ∷ im ∷ []) (length cre)))
     unfolding sumRefusal unless

@@ -168,8 +168,9 @@ fn sum_terms(cre: &[u64], ann: &[u64], re: &[f64], im: &[f64], bra: u64, ket: u6
     ensures { λ r. ⌜ toldBy r ≡ unless (sumRefusal bra ket (now (cre .entry)) (now (ann .entry)) (now (re .entry) ∷ now (im .entry) ∷ [])) (sumsTo bra ket (now (cre .entry)) (now (ann .entry)) (now (re .entry) ∷ now (im .entry) ∷ []) (length (now (cre .entry)))) ⌝ }
 {
     let mut sum = Complex64::ZERO;
-    let mut i = 0;
-    while i < cre.len() {
+    let mut left = cre.len();
+    while 0 < left {
+        let i = cre.len() - left;
         let c = Complex64 {
             re: re[i],
             im: im[i],
@@ -182,7 +183,7 @@ fn sum_terms(cre: &[u64], ann: &[u64], re: &[f64], im: &[f64], bra: u64, ket: u6
                 place: i as u64,
             });
         }
-        i += 1;
+        left -= 1;
     }
     FloatElement::Complex(sum)
 }
