@@ -15,6 +15,7 @@ use Rattle.products.specs.PhaseRule.{Outcome, went, term}
 use Rattle.products.specs.Apply.{applied}
 use Rattle.products.specs.declared.ApplyResult.the-variants.{Applied, Zero}
 use Rattle.products.proofs.Outcomes.{outcome-gone, outcome-went}
+use Rattle.float_elem.specs.declared.Complex64.{Complex64}
 use Rattle.float_elem.specs.Sums.{plusZero, signed, added, joined, sumTo}
 use Rattle.float_elem.specs.Answers.{Told, unless}
 use Rattle.float_elem.specs.Elements.{allFinite, firstOf, sumsTo, sumAt, sumRefusal}
@@ -22,22 +23,38 @@ use Rattle.float_elem.proofs.Firsts.{first-starts, first-goes, first-st
 
 -- ---- one term and one part
 
-module _ (bra ket cre ann : ℕ) (c x : Float) where
+module _ (bra ket cre ann : ℕ) where
   abbrev outcome : Outcome
   outcome = term cre ann (went ket false)
 
-  pub joined-zero : Zero ≡ applied cre ann ket → x ≡ joined bra ket cre ann c x
-  joined-zero e = sym (ap (added bra c x) (outcome-gone outcome e))
+  module _ (c x : Float) where
+    zero : Zero ≡ applied cre ann ket → x ≡ joined bra ket cre ann c x
+    zero e = sym (ap (added bra c x) (outcome-gone outcome e))
 
-  module _ (word : ℕ) (sign : Sign) (e : Applied word sign ≡ applied cre ann ket) where
-    there : joined bra ket cre ann c x ≡ added bra c x (went word (sign .0))
-    there = ap (added bra c x) (outcome-went word sign outcome e)
+    there : (word : ℕ) (sign : Sign) → Applied word sign ≡ applied cre ann ket → joined bra ket cre ann c x ≡ added bra c x (went word (sign .0))
+    there word sign e = ap (added bra c x) (outcome-went word sign outcome e)
 
-    pub joined-other : (word ≡ bra → ⊥) → x ≡ joined bra ket cre ann c x
-    joined-other n = sym (there ∙ rw (ne-eqb word bra n))
+    other : (word : ℕ) (sign : Sign) → Applied word sign ≡ applied cre ann ket → (word ≡ bra → ⊥) → x ≡ joined bra ket cre ann c x
+    other word sign e n = sym (there word sign e ∙ rw (ne-eqb word bra n))
 
-    pub joined-here : (s : Bool) → sign .0 ≡ s → word ≡ bra → add binary64 x (signed s c) ≡ joined bra ket cre ann c x
-    joined-here s es h = sym (there ∙ rw (eq-eqb word bra h, es))
+    here : (word : ℕ) (sign : Sign) → Applied word sign ≡ applied cre ann ket → word ≡ bra → (s : Bool) → sign .0 ≡ s
+        → add binary64 x (signed s c) ≡ joined bra ket cre ann c x
+    here word sign e h s es = sym (there word sign e ∙ rw (eq-eqb word bra h, es))
+
+  -- both parts
+  module _ (c x : Complex64) where
+    abbrev Both : Float → Float → Type 0
+    Both y z = (y ≡ joined bra ket cre ann (c .re) (x .re)) × (z ≡ joined bra ket cre ann (c .im) (x .im))
+
+    pub joined-zero : Zero ≡ applied cre ann ket → Both (x .re) (x .im)
+    joined-zero e = (zero (c .re) (x .re) e, zero (c .im) (x .im) e)
+
+    module _ (word : ℕ) (sign : Sign) (e : Applied word sign ≡ applied cre ann ket) where
+      pub joined-other : (word ≡ bra → ⊥) → Both (x .re) (x .im)
+      joined-other n = (other (c .re) (x .re) word sign e n, other (c .im) (x .im) word sign e n)
+
+      pub joined-here : word ≡ bra → (s : Bool) → sign .0 ≡ s → Both (add binary64 (x .re) (signed s (c .re))) (add binary64 (x .im) (signed s (c .im)))
+      joined-here h s es = (here (c .re) (x .re) word sign e h s es, here (c .im) (x .im) word sign e h s es)
 
 -- ---- the running sums
 

@@ -18,18 +18,14 @@ enum-told c = search needs
 returns : tie.Need-returns
 returns c =
     let a = c .before .before .before .args in
-    let e = sym (c .enum-told .given .1) ∙ c .before .before .apply-op-ket-u64 .ensures in
-    (joined-zero (a .bra) (a .ket) (a .cre) (a .ann) (a .c .re) (a .sum .re) e, joined-zero (a .bra) (a .ket) (a .cre) (a .ann) (a .c .im) (a .sum .im) e)
+    joined-zero (a .bra) (a .ket) (a .cre) (a .ann) (a .c) (a .sum) (sym (c .enum-told .given .1) ∙ c .before .before .apply-op-ket-u64 .ensures)
 
 returns-2 : tie.Need-returns-2
 returns-2 c =
     let at-word = c .before .before in
     let a = at-word .before .before .before .args in
     let known = at-word .word .given in
-    let e = sym (known .1) ∙ at-word .before .before .apply-op-ket-u64 .ensures in (
-      joined-other (a .bra) (a .ket) (a .cre) (a .ann) (a .c .re) (a .sum .re) (known .0 .0) (known .0 .1 .0) e (c .if1 .taken),
-      joined-other (a .bra) (a .ket) (a .cre) (a .ann) (a .c .im) (a .sum .im) (known .0 .0) (known .0 .1 .0) e (c .if1 .taken),
-    )
+    joined-other (a .bra) (a .ket) (a .cre) (a .ann) (a .c) (a .sum) (known .0 .0) (known .0 .1 .0) (sym (known .1) ∙ at-word .before .before .apply-op-ket-u64 .ensures) (c .if1 .taken)
 
 returns-3 : tie.Need-returns-3
 returns-3 c =
@@ -38,10 +34,7 @@ returns-3 c =
     let at-word = at-if1 .before .before in
     let a = at-word .before .before .before .args in
     let known = at-word .word .given in
-    let e = sym (known .1) ∙ at-word .before .before .apply-op-ket-u64 .ensures in (
-      joined-here (a .bra) (a .ket) (a .cre) (a .ann) (a .c .re) (a .sum .re) (known .0 .0) (known .0 .1 .0) e true (at-if2 .if2 .taken) (at-if1 .if1 .left),
-      joined-here (a .bra) (a .ket) (a .cre) (a .ann) (a .c .im) (a .sum .im) (known .0 .0) (known .0 .1 .0) e true (at-if2 .if2 .taken) (at-if1 .if1 .left),
-    )
+    joined-here (a .bra) (a .ket) (a .cre) (a .ann) (a .c) (a .sum) (known .0 .0) (known .0 .1 .0) (sym (known .1) ∙ at-word .before .before .apply-op-ket-u64 .ensures) (at-if1 .if1 .left) true (at-if2 .if2 .taken)
 
 returns-4 : tie.Need-returns-4
 returns-4 c =
@@ -50,10 +43,7 @@ returns-4 c =
     let at-word = at-if1 .before .before in
     let a = at-word .before .before .before .args in
     let known = at-word .word .given in
-    let e = sym (known .1) ∙ at-word .before .before .apply-op-ket-u64 .ensures in (
-      joined-here (a .bra) (a .ket) (a .cre) (a .ann) (a .c .re) (a .sum .re) (known .0 .0) (known .0 .1 .0) e false (at-if2 .if2 .left) (at-if1 .if1 .left),
-      joined-here (a .bra) (a .ket) (a .cre) (a .ann) (a .c .im) (a .sum .im) (known .0 .0) (known .0 .1 .0) e false (at-if2 .if2 .left) (at-if1 .if1 .left),
-    )
+    joined-here (a .bra) (a .ket) (a .cre) (a .ann) (a .c) (a .sum) (known .0 .0) (known .0 .1 .0) (sym (known .1) ∙ at-word .before .before .apply-op-ket-u64 .ensures) (at-if1 .if1 .left) false (at-if2 .if2 .left)
 
 pub add-term-spec : {M : Type 1} → statement M
 add-term-spec =

@@ -8,20 +8,14 @@
 //! zixy adds f64 coefficients and makes its own set of terms; the library adds whole numbers, reads and checks two
 //! records and writes one.
 use programs::draw::Draw;
+use programs::operators::{record, zixy_terms, Operator};
 use programs::timing::{self, Symbol, Timing, ROUNDS};
-use std::collections::BTreeMap;
 use std::hint::black_box;
 use zixy::container::traits::proj::Borrow;
-use zixy::container::word_iters::terms::AsViewMut;
-use zixy::fermion::mode::Modes;
 use zixy::fermion::operator::normal::cmpnt_major::lincomb;
-use zixy::fermion::operator::normal::cmpnt_major::terms::Terms;
 
 type Add = unsafe extern "C" fn(*const u8, usize, *const u8, usize, *mut u8, usize, *mut u64);
 type Check = unsafe extern "C" fn(*const u8, usize, *mut u64);
-
-/// Terms by (annihilation, creation), with coefficients from 1 to 1,000.
-type Operator = BTreeMap<(u64, u64), i64>;
 
 fn operator(draw: &mut Draw, m: u64, n: usize, shared: &Operator) -> Operator {
     let mut terms: Operator = shared.iter().take(n / 2).map(|(k, c)| (*k, *c)).collect();
@@ -29,24 +23,6 @@ fn operator(draw: &mut Draw, m: u64, n: usize, shared: &Operator) -> Operator {
         terms.insert((draw.pair(m), draw.pair(m)), 1 + (draw.next() % 1000) as i64);
     }
     terms
-}
-
-fn record(m: u64, terms: &Operator) -> Vec<u8> {
-    let n = terms.len() as u32;
-    let header = [1, m as u32, n, 32, 32 + 8 * n, 32 + 16 * n, 32 + 24 * n, 0];
-    let mut out: Vec<u8> = header.iter().flat_map(|x| x.to_le_bytes()).collect();
-    out.extend(terms.keys().flat_map(|(ann, _)| ann.to_le_bytes()));
-    out.extend(terms.keys().flat_map(|(_, cre)| cre.to_le_bytes()));
-    out.extend(terms.values().flat_map(|c| c.to_le_bytes()));
-    out
-}
-
-fn zixy_terms(m: u64, terms: &Operator) -> Terms<f64> {
-    let mut out = Terms::<f64>::new(Modes::from_count(m as usize));
-    for ((ann, cre), c) in terms {
-        out.push_u64it([*cre, *ann].into_iter(), *c as f64);
-    }
-    out
 }
 
 fn main() {
@@ -66,7 +42,7 @@ fn main() {
         // at most 2,048 terms in the result: where each side has as many, both have the same words
         let b = if n > 1365 { a.iter().map(|(k, c)| (*k, c + 1)).collect() } else { operator(&mut draw, m, n, &a) };
         let (left, right) = (record(m, &a), record(m, &b));
-        let (zixy_left, zixy_right) = (zixy_terms(m, &a), zixy_terms(m, &b));
+        let (zixy_left, zixy_right) = (zixy_terms(m, &a, |c| c), zixy_terms(m, &b, |c| c));
         let mut out = vec![0u8; 49_184];
         let (mut zixy, mut library, mut checked) = (Timing::default(), Timing::default(), Timing::default());
         for _ in 0..ROUNDS {

@@ -9,16 +9,13 @@
 //! compared first. zixy takes lists that it has made before; the library checks what it is given in the same call.
 use num_complex::Complex64;
 use programs::draw::Draw;
+use programs::operators::{record, zixy_terms, Operator};
 use programs::timing::{self, Symbol, Timing, ROUNDS};
-use std::collections::BTreeMap;
 use std::hint::black_box;
-use zixy::container::coeffs::traits::FieldElem;
 use zixy::container::traits::RefElements;
-use zixy::container::word_iters::terms::AsViewMut;
 use zixy::container::word_iters::WordIters;
 use zixy::fermion::mode::Modes;
 use zixy::fermion::operator::normal::cmpnt_major::mat_elem::mat_elem_cmpnts;
-use zixy::fermion::operator::normal::cmpnt_major::terms::Terms;
 use zixy::fermion::state::cmpnt_list::CmpntList as StateList;
 
 type Words = *const u64;
@@ -30,10 +27,10 @@ type Element = unsafe extern "C" fn(*const u8, usize, u64, u64, *mut u64);
 
 const TERMS: usize = 2048;
 
-/// Terms by (annihilation, creation), with coefficients from 1 to 1,000, and the two words between which they stand.
+/// Terms with coefficients from 1 to 1,000, and the two words between which they stand.
 struct Question {
     modes: u64,
-    terms: BTreeMap<(u64, u64), i64>,
+    terms: Operator,
     bra: u64,
     ket: u64,
 }
@@ -41,7 +38,7 @@ struct Question {
 /// Two-body terms on a half-filled ket. The bra is where one of them takes it: most terms give Zero, and few join.
 fn few_join(modes: u64) -> Question {
     let mut draw = Draw(modes);
-    let mut terms = BTreeMap::new();
+    let mut terms = Operator::new();
     while terms.len() < TERMS {
         terms.insert((draw.pair(modes), draw.pair(modes)), 1 + (draw.next() % 1000) as i64);
     }
@@ -52,34 +49,16 @@ fn few_join(modes: u64) -> Question {
     Question { modes, terms, bra, ket }
 }
 
-/// Terms {c|c} on a word that holds all modes: every one joins. Four of 16 modes; two of them are not enough.
+/// Terms {c|c} of two to six modes on a word that holds all modes: every one joins.
 fn all_join(modes: u64) -> Question {
     let mut draw = Draw(modes);
-    let mut terms = BTreeMap::new();
+    let mut terms = Operator::new();
     while terms.len() < TERMS {
         let word = draw.pair(modes) | draw.pair(modes) | draw.pair(modes);
         terms.insert((word, word), 1 + (draw.next() % 1000) as i64);
     }
     let full = u64::MAX >> (64 - modes);
     Question { modes, terms, bra: full, ket: full }
-}
-
-fn record(q: &Question) -> Vec<u8> {
-    let n = q.terms.len() as u32;
-    let header = [1, q.modes as u32, n, 32, 32 + 8 * n, 32 + 16 * n, 32 + 24 * n, 0];
-    let mut out: Vec<u8> = header.iter().flat_map(|x| x.to_le_bytes()).collect();
-    out.extend(q.terms.keys().flat_map(|(ann, _)| ann.to_le_bytes()));
-    out.extend(q.terms.keys().flat_map(|(_, cre)| cre.to_le_bytes()));
-    out.extend(q.terms.values().flat_map(|c| c.to_le_bytes()));
-    out
-}
-
-fn zixy_terms<C: FieldElem>(q: &Question, coefficient: impl Fn(f64) -> C) -> Terms<C> {
-    let mut out = Terms::<C>::new(Modes::from_count(q.modes as usize));
-    for ((ann, cre), c) in &q.terms {
-        out.push_u64it([*cre, *ann].into_iter(), coefficient(*c as f64));
-    }
-    out
 }
 
 struct Library {
@@ -103,8 +82,8 @@ fn load(file: &str) -> Library {
 fn bench(library: &Library, name: &str, q: &Question) {
     let (ann, cre): (Vec<u64>, Vec<u64>) = q.terms.keys().copied().unzip();
     let coefficients: Vec<f64> = q.terms.values().map(|c| *c as f64).collect();
-    let (n, bytes) = (q.terms.len(), record(q));
-    let (reals, complexes) = (zixy_terms(q, |c| c), zixy_terms(q, |c| Complex64::new(c, c)));
+    let (n, bytes) = (q.terms.len(), record(q.modes, &q.terms));
+    let (reals, complexes) = (zixy_terms(q.modes, &q.terms, |c| c), zixy_terms(q.modes, &q.terms, |c| Complex64::new(c, c)));
     let mut states = StateList::new(Modes::from_count(q.modes as usize));
     [q.bra, q.ket].iter().for_each(|word| states.push_u64it([*word].into_iter()));
     let (bra, ket) = (states.get_elem_ref(0), states.get_elem_ref(1));
