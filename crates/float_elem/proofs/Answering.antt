@@ -15,7 +15,7 @@ use Rattle.record.proofs.Refusals.{or-first, or-second}
 use Rattle.float_elem.specs.Sums.{sumTo}
 use Rattle.float_elem.specs.Answers.{Told, toldBy, unless}
 use Rattle.float_elem.specs.declared.FloatElement.{FloatElement}
-use Rattle.float_elem.specs.Elements.{allFinite, listed, firstOf, termRefusal, termAt, wordsRefusal, inputRefusal, sumsTo, sumAt, sumRefusal, floatElement}
+use Rattle.float_elem.specs.Elements.{allFinite, listed, firstOf, termRefusal, termAt, wordsRefusal, inputRefusal, sumAt, sumRefusal, summed, floatElement}
 
 module _ (m : ℕ) (cre ann : List ℕ) (parts : List (List Float)) (bra ket : ℕ) where
   refused : (r : Refusal) → inputRefusal m cre ann parts bra ket ≡ r → (r .number ≡ 0 → ⊥) → _≡_ {A = Told} (record { refusal = r; values = [] }) (floatElement m cre ann parts bra ket)
@@ -42,7 +42,7 @@ module _ (m : ℕ) (cre ann : List ℕ) (parts : List (List Float)) (bra ket : �
         pub word-refused : (w .number ≡ 0 → ⊥) → _≡_ {A = Told} (record { refusal = w; values = [] }) (floatElement m cre ann parts bra ket)
         word-refused n = refused w words-next n
 
-        pub sums-decide : w .number ≡ 0 → (t : Told) → t ≡ unless (sumRefusal bra ket cre ann parts) (sumsTo bra ket cre ann parts (length cre)) → t ≡ floatElement m cre ann parts bra ket
+        pub sums-decide : w .number ≡ 0 → (t : Told) → t ≡ summed bra ket cre ann parts → t ≡ floatElement m cre ann parts bra ket
         unfolding floatElement
         sums-decide n t e = e ∙ rw (words-next, or-second w (sumRefusal bra ket cre ann parts) n)
 

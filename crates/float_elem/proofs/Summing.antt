@@ -18,7 +18,7 @@ use Rattle.products.proofs.Outcomes.{outcome-gone, outcome-went}
 use Rattle.float_elem.specs.declared.Complex64.{Complex64}
 use Rattle.float_elem.specs.Sums.{plusZero, signed, added, joined, sumTo}
 use Rattle.float_elem.specs.Answers.{Told, unless}
-use Rattle.float_elem.specs.Elements.{allFinite, firstOf, sumsTo, sumAt, sumRefusal}
+use Rattle.float_elem.specs.Elements.{allFinite, firstOf, sumAt, sumRefusal, summed}
 use Rattle.float_elem.proofs.Firsts.{first-starts, first-goes, first-stays}
 
 -- ---- one term and one part
@@ -81,12 +81,12 @@ module _ (bra ket : ℕ) (cre ann : List ℕ) (re im : List Float) where
     sums-go f j e =
         rw (e, add-one) (record { res = part-on re i x z (so .res) ez; ims = part-on im i y w (so .ims) ew; fine = rw add-one at (first-goes _ i (so .fine) (at true f)) })
 
-    pub sums-stop : allFinite (z ∷ w ∷ []) ≡ false → i < length cre → _≡_ {A = Told} (record { refusal = refusal 13 1 i; values = [] }) (unless (sumRefusal bra ket cre ann (re ∷ im ∷ [])) (sumsTo bra ket cre ann (re ∷ im ∷ []) (length cre)))
+    pub sums-stop : allFinite (z ∷ w ∷ []) ≡ false → i < length cre → _≡_ {A = Told} (record { refusal = refusal 13 1 i; values = [] }) (summed bra ket cre ann (re ∷ im ∷ []))
     unfolding sumRefusal unless
     sums-stop e l =
         let has : sumAt bra ket cre ann (re ∷ im ∷ []) i .number ≡ 0 → ⊥ = λ q. absurd (omega (arith, ap (λ (r : Refusal). r .number) (at false e))) in
         rw (first-stays _ i (so .fine) has (length cre) l, at false e)
 
-  pub sums-end : (x y : Float) (i : ℕ) → Running bra ket cre ann re im x y i → i ≡ length cre → _≡_ {A = Told} (record { refusal = none; values = x ∷ y ∷ [] }) (unless (sumRefusal bra ket cre ann (re ∷ im ∷ [])) (sumsTo bra ket cre ann (re ∷ im ∷ []) (length cre)))
+  pub sums-end : (x y : Float) (i : ℕ) → Running bra ket cre ann re im x y i → i ≡ length cre → _≡_ {A = Told} (record { refusal = none; values = x ∷ y ∷ [] }) (summed bra ket cre ann (re ∷ im ∷ []))
   unfolding sumRefusal unless
   sums-end x y i so e = rw (← e, so .fine, ← so .res, ← so .ims)

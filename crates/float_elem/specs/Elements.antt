@@ -60,7 +60,11 @@ sumAt bra ket cre ann parts i = cond (allFinite (sumsTo bra ket cre ann parts (s
 unfoldable pub sumRefusal : ℕ → ℕ → List ℕ → List ℕ → List (List Float) → Refusal
 sumRefusal bra ket cre ann parts = firstOf (sumAt bra ket cre ann parts) (length cre)
 
--- the whole answer: the inputs' refusal, then 13 of the first running sum that isn't finite, or the sums over all terms
+-- the sums alone: 13 of the first running sum that isn't finite, or the sums over all terms
+abbrev pub summed : ℕ → ℕ → List ℕ → List ℕ → List (List Float) → Told
+summed bra ket cre ann parts = unless (sumRefusal bra ket cre ann parts) (sumsTo bra ket cre ann parts (length cre))
+
+-- the whole answer: the inputs' refusal before that of the sums, or the sums over all terms
 unfoldable pub floatElement : ℕ → List ℕ → List ℕ → List (List Float) → ℕ → ℕ → Told
 floatElement m cre ann parts bra ket =
     unless (orElse (inputRefusal m cre ann parts bra ket) (sumRefusal bra ket cre ann parts)) (sumsTo bra ket cre ann parts (length cre))

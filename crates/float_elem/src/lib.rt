@@ -9,8 +9,8 @@ ghost use lib.Ieee.Scale.{finite};
 ghost use lib.ListN.{length};
 ghost use Rattle.mat_elem.specs.Elements.{wordRefusal};
 ghost use Rattle.float_elem.specs.Sums.{joined};
-ghost use Rattle.float_elem.specs.Answers.{toldBy, unless};
-ghost use Rattle.float_elem.specs.Elements.{allFinite, listed, termRefusal, termAt, firstOf, wordsRefusal, sumsTo, sumRefusal, floatElement};
+ghost use Rattle.float_elem.specs.Answers.{toldBy};
+ghost use Rattle.float_elem.specs.Elements.{allFinite, listed, termRefusal, termAt, firstOf, wordsRefusal, summed, floatElement};
 ghost use Rattle.float_elem.specs.Lengths.{OneLength};
 
 // A complex number; also the running sum of an element.
@@ -165,7 +165,7 @@ fn add_term(sum: Complex64, c: Complex64, cre: u64, ann: u64, bra: u64, ket: u64
 // The sum in the caller's order, refused at the first term that makes it not finite.
 fn sum_terms(cre: &[u64], ann: &[u64], re: &[f64], im: &[f64], bra: u64, ket: u64) -> FloatElement
     requires { ⌜ OneLength (length (now cre)) (now ann) (now re) (now im) ⌝ }
-    ensures { λ r. ⌜ toldBy r ≡ unless (sumRefusal bra ket (now (cre .entry)) (now (ann .entry)) (now (re .entry) ∷ now (im .entry) ∷ [])) (sumsTo bra ket (now (cre .entry)) (now (ann .entry)) (now (re .entry) ∷ now (im .entry) ∷ []) (length (now (cre .entry)))) ⌝ }
+    ensures { λ r. ⌜ toldBy r ≡ summed bra ket (now (cre .entry)) (now (ann .entry)) (now (re .entry) ∷ now (im .entry) ∷ []) ⌝ }
 {
     let mut sum = Complex64::ZERO;
     let mut left = cre.len();
