@@ -56,6 +56,16 @@ void fermion_block(const uint8_t *a, size_t a_len, uint64_t ann, uint64_t answer
 /* [5] the exact element, signed (cast it to int64_t). 12: operand 3 for the bra, 4 for the ket, place 0. */
 void fermion_element(const uint8_t *a, size_t a_len, uint64_t bra, uint64_t ket, uint64_t answer[8]);
 
+/* Float elements: value[0] re, value[1] im (plus zero for a real, and both on refusal). Entry i of every list
+ * belongs to term i; the lists have one length, 0 to 2,048. 1, 2 and 13: operand 1; 12: operand 3 for the bra, 4 for the
+ * ket. */
+void fermion_mat_elem_real(uint64_t m, const uint64_t *cre, size_t cre_len, const uint64_t *ann, size_t ann_len,
+                           const double *coeff, size_t coeff_len, uint64_t bra, uint64_t ket,
+                           double value[2], uint64_t answer[8]);
+void fermion_mat_elem_complex(uint64_t m, const uint64_t *cre, size_t cre_len, const uint64_t *ann, size_t ann_len,
+                              const double *re, size_t re_len, const double *im, size_t im_len,
+                              uint64_t bra, uint64_t ket, double value[2], uint64_t answer[8]);
+
 #ifdef __cplusplus
 }
 #endif

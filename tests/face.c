@@ -1,5 +1,5 @@
 /* The C face from C: `fermion_apply` against a plain implementation that works ladder by ladder, and every other function
- * on the specification's example, whose answers are worked out by hand. */
+ * on the specification's example or on a few terms, with answers that are worked out by hand. */
 #include "fermion.h"
 #include <stdbool.h>
 #include <stdio.h>
@@ -291,6 +291,42 @@ static struct tally check_mul_cmpnts(void)
     return t;
 }
 
+/* two numbers between guards */
+struct values {
+    double before, value[2], after;
+};
+
+/* {|} and {|0,1} with re 1.5 and 0.1, im -2.0 and 0.2, on two modes. On the ket 3 the first keeps it, and the second takes
+ * it to 0 with a minus. A bra outside the modes is refused, and so is a list that is one entry short. */
+static struct tally check_mat_elem(const char *name, bool complex)
+{
+    struct tally t = {name, 0, 0};
+    const uint64_t cre[] = {0, 0}, ann[] = {0, 3};
+    const double re[] = {1.5, 0.1}, im[] = {-2.0, 0.2};
+    const struct {
+        uint64_t bra;
+        size_t len;
+        double re, im;
+        struct guarded answer;
+    } calls[] = {
+        {3, 2, 1.5, -2.0, answer_of(0, 0, 0, 0, 0, 0, 0)}, {0, 2, -0.1, -0.2, answer_of(0, 0, 0, 0, 0, 0, 0)},
+        {1, 2, 0.0, 0.0, answer_of(0, 0, 0, 0, 0, 0, 0)},  {4, 2, 0.0, 0.0, answer_of(12, 3, 0, 0, 0, 0, 0)},
+        {3, 1, 0.0, 0.0, answer_of(1, 1, 0, 0, 0, 0, 0)},
+    };
+    for (size_t i = 0; i < sizeof calls / sizeof calls[0]; i++) {
+        struct values got = {7, {(double)next(), (double)next()}, 9};
+        struct values expected = {7, {calls[i].re, complex ? calls[i].im : 0.0}, 9};
+        struct guarded answer = dirty();
+        if (complex)
+            fermion_mat_elem_complex(2, cre, 2, ann, 2, re, 2, im, calls[i].len, calls[i].bra, 3, got.value, answer.answer);
+        else
+            fermion_mat_elem_real(2, cre, 2, ann, 2, re, calls[i].len, calls[i].bra, 3, got.value, answer.answer);
+        compare(&t, &got, &expected, sizeof got);
+        same_answer(&t, answer, calls[i].answer);
+    }
+    return t;
+}
+
 int main(void)
 {
     struct tally all[] = {
@@ -306,6 +342,8 @@ int main(void)
         check_test("fermion_active_modes", fermion_active_modes, 3, 0, 0),
         check_block(),
         check_element(),
+        check_mat_elem("fermion_mat_elem_real", false),
+        check_mat_elem("fermion_mat_elem_complex", true),
     };
     int passed = 0, failed = 0;
     for (size_t i = 0; i < sizeof all / sizeof all[0]; i++) {

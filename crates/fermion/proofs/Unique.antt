@@ -2,8 +2,10 @@
 use mathlib.Core.Path.{_≡_, sym, _∙_}
 use mathlib.Core.List.{List}
 use Prim.Native.Nat.{ℕ}
+use lib.Ieee.{Float}
 use Rattle.lent.specs.Outputs.{Output}
-use Rattle.fermion.specs.Face.{Fills}
+use Rattle.float_elem.specs.Answers.{Told}
+use Rattle.fermion.specs.Face.{Fills, FillsFloat}
 
 -- once for every call that fills no output: its promise names the eight numbers
 pub answer-one : {numbers answer answer′ : List ℕ} → answer ≡ numbers → answer′ ≡ numbers → answer ≡ answer′
@@ -12,3 +14,8 @@ answer-one g h = g ∙ sym h
 -- once for every call that fills an output
 pub fills-one : {o : Output} {out out′ answer answer′ : List ℕ} → Fills o out answer → Fills o out′ answer′ → (out ≡ out′) × (answer ≡ answer′)
 fills-one g h = (g .bytes ∙ sym (h .bytes), g .numbers ∙ sym (h .numbers))
+
+-- once for both float elements
+pub fills-float-one : {t : Told} {value value′ : List Float} {answer answer′ : List ℕ} → FillsFloat t value answer → FillsFloat t value′ answer′
+    → (value ≡ value′) × (answer ≡ answer′)
+fills-float-one g h = (g .floats ∙ sym (h .floats), g .numbers ∙ sym (h .numbers))

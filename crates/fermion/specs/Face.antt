@@ -1,8 +1,10 @@
 -- The eight numbers of an answer at the C face: the refusal's number, operand and place, the length, the branches or rows, and the call's own three values.
 use mathlib.Core.Path.{_≡_}
 use mathlib.Core.Bool.{cond}
-use mathlib.Core.List.{List, [], _∷_}
+use mathlib.Core.List.{List, [], _∷_, _++_}
 use Prim.Native.Nat.{ℕ}
+use lib.ListN.{take}
+use lib.Ieee.{Float}
 use mir.Syntax.{w64}
 use mir.Val.{ofZ}
 use Rattle.modes.specs.Answers.{none}
@@ -16,6 +18,8 @@ use Rattle.record.specs.declared.Tested.{Tested}
 use Rattle.record.specs.declared.Measured.{Measured}
 use Rattle.record.specs.declared.Stretch.{Stretch}
 use Rattle.mat_elem.specs.declared.Exact.{Exact}
+use Rattle.float_elem.specs.Sums.{plusZero}
+use Rattle.float_elem.specs.Answers.{Told}
 
 -- a call that fills no output: its refusal, and its own three values
 abbrev pub answered : Refusal → ℕ → ℕ → ℕ → List ℕ
@@ -57,3 +61,15 @@ writtenAnswer w = w .refusal .number ∷ w .refusal .operand ∷ w .refusal .pla
 pub record Fills (o : Output) (out answer : List ℕ) : Type 0 where
   pub bytes : out ≡ o .bytes
   pub numbers : answer ≡ writtenAnswer (o .answer)
+
+-- a float element: its values, re and im, with plus zero in the place of those that it has not; and its refusal
+abbrev pub floatValues : Told → List Float
+floatValues t = take 2 (t .values ++ plusZero ∷ plusZero ∷ [])
+
+abbrev pub floatAnswer : Told → List ℕ
+floatAnswer t = answered (t .refusal) 0 0 0
+
+-- the values and the answer at the end are those of the element
+pub record FillsFloat (t : Told) (value : List Float) (answer : List ℕ) : Type 0 where
+  pub floats : value ≡ floatValues t
+  pub numbers : answer ≡ floatAnswer t

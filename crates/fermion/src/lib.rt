@@ -1,6 +1,7 @@
 // The C face: each function fills its answer whole, on every way out, as include/fermion.h says.
 ghost use mathlib.Core.Path.{_≡_};
 ghost use mathlib.Core.Bool.{cond};
+ghost use mathlib.Core.List.{[], _∷_};
 ghost use lib.ListN.{length};
 ghost use Rattle.products.specs.Apply.{applied};
 ghost use Rattle.products.specs.Product.{multiplied};
@@ -8,10 +9,13 @@ ghost use Rattle.lincomb.specs.Sums.{added, subtracted};
 ghost use Rattle.adjoint.specs.Adjoint.{adjointed};
 ghost use Rattle.adjoint.specs.Hermitian.{hermitianOf};
 ghost use Rattle.mat_elem.specs.Elements.{elementOf};
+ghost use Rattle.float_elem.specs.Answers.{toldBy};
+ghost use Rattle.float_elem.specs.Elements.{floatElement};
 ghost use Rattle.record.specs.Refusals.{checkedOf};
 ghost use Rattle.record.specs.Blocks.{blockOf};
 ghost use Rattle.record.specs.Figures.{conservesOf, maxNBodyOf, activeModesOf};
-ghost use Rattle.fermion.specs.Face.{values, applyAnswer, writtenAnswer, answered, checkedAnswer, testedAnswer, measuredAnswer, stretchAnswer, elementAnswer, Fills};
+ghost use Rattle.fermion.specs.Face.{values, applyAnswer, writtenAnswer, answered, checkedAnswer, testedAnswer, measuredAnswer, stretchAnswer, elementAnswer, Fills, floatValues, floatAnswer, FillsFloat};
+use float_elem::FloatElement;
 use mat_elem::Exact;
 use modes::Refusal;
 use modes::Written;
@@ -171,4 +175,62 @@ pub extern "C" fn fermion_element(a: &[u8], bra: u64, ket: u64, answer: &mut [u6
     ensures { λ _. ⌜ now (answer .exit) ≡ elementAnswer (elementOf (now (a .entry)) bra ket) ⌝ }
 {
     *answer = exact(mat_elem::element(a, bra, ket));
+}
+
+// re and im, plus zero where the element has none
+fn float_values(e: FloatElement) -> [f64; 2]
+    ensures { λ v. ⌜ v ≡ floatValues (toldBy e) ⌝ }
+{
+    match e {
+        FloatElement::Real(x) => [x, 0.0],
+        FloatElement::Complex(z) => [z.re, z.im],
+        FloatElement::Refused(_) => [0.0, 0.0],
+    }
+}
+
+fn float_answer(e: FloatElement) -> [u64; 8]
+    ensures { λ a. ⌜ a ≡ floatAnswer (toldBy e) ⌝ }
+{
+    match e {
+        FloatElement::Real(_) => answer_of(Refusal::NONE, 0, 0, 0),
+        FloatElement::Complex(_) => answer_of(Refusal::NONE, 0, 0, 0),
+        FloatElement::Refused(r) => answer_of(r, 0, 0, 0),
+    }
+}
+
+#[no_mangle]
+pub extern "C" fn fermion_mat_elem_real(
+    m: u64,
+    cre: &[u64],
+    ann: &[u64],
+    coeff: &[f64],
+    bra: u64,
+    ket: u64,
+    value: &mut [f64; 2],
+    answer: &mut [u64; 8],
+)
+    ensures { λ _. ⌜ FillsFloat (floatElement m (now (cre .entry)) (now (ann .entry)) (now (coeff .entry) ∷ []) bra ket) (now (value .exit)) (now (answer .exit)) ⌝ }
+{
+    let e = float_elem::mat_elem_real(m, cre, ann, coeff, bra, ket);
+    *value = float_values(e);
+    *answer = float_answer(e);
+}
+
+#[no_mangle]
+pub extern "C" fn fermion_mat_elem_complex(
+    m: u64,
+    cre: &[u64],
+    ann: &[u64],
+    re: &[f64],
+    im: &[f64],
+    bra: u64,
+    ket: u64,
+    value: &mut [f64; 2],
+    answer: &mut [u64; 8],
+)
+    ensures { λ _. ⌜ FillsFloat (floatElement m (now (cre .entry)) (now (ann .entry)) (now (re .entry) ∷ now (im .entry) ∷ []) bra ket) (now (value .exit)) (now (answer .exit)) ⌝ }
+{
+    let e = float_elem::mat_elem_complex(m, cre, ann, re, im, bra, ket);
+    *value = float_values(e);
+    *answer = float_answer(e);
 }

@@ -1,49 +1,42 @@
 -- A sum over the terms of a record, term by term: what is summed and what is left make the element, within the weight.
-use mathlib.Core.Path.{_≡_, refl, sym, ap, ap₂, _∙_, subst}
-use mathlib.Core.Bool.{Bool, true, false, cond}
-use mathlib.Core.List.{List, [], _∷_}
-use Prim.Native.Nat.{ℕ, zero, suc, _+_, _-_, _^_, _≤_, _<_, zero-le}
+use mathlib.Core.Path.{_≡_, sym, ap, _∙_, subst}
+use mathlib.Core.Bool.{false}
+use mathlib.Core.List.{List, []}
+use Prim.Native.Nat.{ℕ, _+_, _^_, _≤_, _<_}
 use native.Mathlib.Nat.{zero-add}
 use native.Mathlib.Omega.{arith}
-use lib.Dec.{eqb}
-use lib.IntN.{ℤ, pos, negsuc, natAbs, _+ℤ_, +ℤ-idl, +ℤ-idr, +ℤ-assoc}
+use lib.IntN.{ℤ, pos, natAbs, _+ℤ_, +ℤ-idl, +ℤ-idr, +ℤ-assoc}
 use lib.ListN.{drop}
 use borrow.Author.Tests.{eq-eqb, ne-eqb}
 use Rattle.modes.specs.declared.Term.{Term}
 use Rattle.modes.specs.declared.Sign.{Sign}
-use Rattle.products.specs.PhaseRule.{Outcome, gone, went, term}
+use Rattle.products.specs.PhaseRule.{Outcome, went, term}
 use Rattle.products.specs.Operators.{signed, adds, part, element}
-use Rattle.products.specs.Apply.{resultOf, applied}
-use Rattle.products.specs.declared.ApplyResult.{ApplyResult}
+use Rattle.products.specs.Apply.{applied}
 use Rattle.products.specs.declared.ApplyResult.the-variants.{Applied, Zero}
-use Rattle.products.proofs.Walks.{abs-signed}
+use Rattle.products.proofs.Outcomes.{outcome-gone, outcome-went}
 use Rattle.record.specs.Terms.{weight}
 use Rattle.record.specs.Reading.{At}
 use Rattle.lent.proofs.SignedNumbers.{abs-sum}
 
 -- ---- one term
 
--- what an outcome adds, read off the answer of `apply_op_ket_u64`
-gone-adds : (bra : ℕ) (z : ℤ) (o : Outcome) → Zero ≡ resultOf o → pos 0 ≡ adds bra z o
-gone-adds bra z gone e = refl
-gone-adds bra z (went w s) e = let q : _≡_ {A = ℕ} 0 1 = cc in absurd (omega arith)
-
-went-adds : (bra word : ℕ) (sign : Sign) (z : ℤ) (o : Outcome) → Applied word sign ≡ resultOf o → adds bra z o ≡ cond (eqb word bra) (signed (sign .0) z) (pos 0)
-went-adds bra word sign z gone e = let q : _≡_ {A = ℕ} 0 1 = cc in absurd (omega arith)
-went-adds bra word sign z (went w s) e =
-    let p : w ≡ word = cc in
-    let q : sign ≡ record { 0 = s } = cc in
-    ap₂ (λ (x : ℕ) (b : Bool). cond (eqb x bra) (signed b z) (pos 0)) p (ap (λ (x : Sign). x .0) (sym q))
-
 module _ (bra ket : ℕ) (t : Term) where
+  abbrev outcome : Outcome
+  outcome = term (t .cre) (t .ann) (went ket false)
+
   pub part-zero : Zero ≡ applied (t .cre) (t .ann) ket → pos 0 ≡ part bra ket t
-  part-zero e = gone-adds bra (t .coeff) (term (t .cre) (t .ann) (went ket false)) e
+  part-zero e = sym (ap (adds bra (t .coeff)) (outcome-gone outcome e))
 
-  pub part-other : (word : ℕ) (sign : Sign) → Applied word sign ≡ applied (t .cre) (t .ann) ket → (word ≡ bra → ⊥) → pos 0 ≡ part bra ket t
-  part-other word sign e n = sym (went-adds bra word sign (t .coeff) (term (t .cre) (t .ann) (went ket false)) e ∙ rw (ne-eqb word bra n))
+  module _ (word : ℕ) (sign : Sign) (e : Applied word sign ≡ applied (t .cre) (t .ann) ket) where
+    there : part bra ket t ≡ adds bra (t .coeff) (went word (sign .0))
+    there = ap (adds bra (t .coeff)) (outcome-went word sign outcome e)
 
-  pub part-here : (word : ℕ) (sign : Sign) → Applied word sign ≡ applied (t .cre) (t .ann) ket → word ≡ bra → signed (sign .0) (t .coeff) ≡ part bra ket t
-  part-here word sign e h = sym (went-adds bra word sign (t .coeff) (term (t .cre) (t .ann) (went ket false)) e ∙ rw (eq-eqb word bra h))
+    pub part-other : (word ≡ bra → ⊥) → pos 0 ≡ part bra ket t
+    part-other n = sym (there ∙ rw (ne-eqb word bra n))
+
+    pub part-here : word ≡ bra → signed (sign .0) (t .coeff) ≡ part bra ket t
+    part-here h = sym (there ∙ rw (eq-eqb word bra h))
 
 -- ---- the sum
 

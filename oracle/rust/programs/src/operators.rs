@@ -1,32 +1,15 @@
-//! Random operators for the benchmarks, as records and as zixy's own terms.
+//! Operators of two-body terms, each as a record of the library and as a list of zixy's.
+use crate::draw::Draw;
 use std::collections::BTreeMap;
+use zixy::container::coeffs::traits::FieldElem;
 use zixy::container::word_iters::terms::AsViewMut;
 use zixy::fermion::mode::Modes;
 use zixy::fermion::operator::normal::cmpnt_major::terms::Terms;
 
-/// SplitMix64: seeded, the same on every machine.
-pub struct Draw(pub u64);
-
-impl Draw {
-    pub fn next(&mut self) -> u64 {
-        self.0 = self.0.wrapping_add(0x9e37_79b9_7f4a_7c15);
-        let z = (self.0 ^ (self.0 >> 30)).wrapping_mul(0xbf58_476d_1ce4_e5b9);
-        let z = (z ^ (z >> 27)).wrapping_mul(0x94d0_49bb_1331_11eb);
-        z ^ (z >> 31)
-    }
-
-    /// A word with two of m modes.
-    pub fn pair(&mut self, m: u64) -> u64 {
-        let p = self.next() % m;
-        let q = (p + 1 + self.next() % (m - 1)) % m;
-        1 << p | 1 << q
-    }
-}
-
-/// Terms by (annihilation, creation), with coefficients from 1 to 1,000.
+/// Terms by (annihilation, creation), with whole-number coefficients.
 pub type Operator = BTreeMap<(u64, u64), i64>;
 
-/// An operator of n two-body terms, the first half of them from `shared`.
+/// n two-body terms, up to half of them from `shared`, with coefficients from 1 to 1,000.
 pub fn operator(draw: &mut Draw, m: u64, n: usize, shared: &Operator) -> Operator {
     let mut terms: Operator = shared.iter().take(n / 2).map(|(k, c)| (*k, *c)).collect();
     while terms.len() < n {
@@ -45,10 +28,10 @@ pub fn record(m: u64, terms: &Operator) -> Vec<u8> {
     out
 }
 
-pub fn zixy_terms(m: u64, terms: &Operator) -> Terms<f64> {
-    let mut out = Terms::<f64>::new(Modes::from_count(m as usize));
+pub fn zixy_terms<C: FieldElem>(m: u64, terms: &Operator, coefficient: impl Fn(f64) -> C) -> Terms<C> {
+    let mut out = Terms::<C>::new(Modes::from_count(m as usize));
     for ((ann, cre), c) in terms {
-        out.push_u64it([*cre, *ann].into_iter(), *c as f64);
+        out.push_u64it([*cre, *ann].into_iter(), coefficient(*c as f64));
     }
     out
 }

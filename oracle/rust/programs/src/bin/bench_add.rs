@@ -7,7 +7,8 @@
 //! For each mode count and number of terms, two operators of two-body terms are drawn, half of the terms held by both.
 //! zixy adds f64 coefficients and makes its own set of terms; the library adds whole numbers, reads and checks two
 //! records and writes one.
-use programs::operators::{operator, record, zixy_terms, Draw, Operator};
+use programs::draw::Draw;
+use programs::operators::{operator, record, zixy_terms, Operator};
 use programs::timing::{self, Symbol, Timing, ROUNDS};
 use std::hint::black_box;
 use zixy::container::traits::proj::Borrow;
@@ -33,7 +34,7 @@ fn main() {
         // at most 2,048 terms in the result: where each side has as many, both have the same words
         let b = if n > 1365 { a.iter().map(|(k, c)| (*k, c + 1)).collect() } else { operator(&mut draw, m, n, &a) };
         let (left, right) = (record(m, &a), record(m, &b));
-        let (zixy_left, zixy_right) = (zixy_terms(m, &a), zixy_terms(m, &b));
+        let (zixy_left, zixy_right) = (zixy_terms(m, &a, |c| c), zixy_terms(m, &b, |c| c));
         let mut out = vec![0u8; 49_184];
         let (mut zixy, mut library, mut checked) = (Timing::default(), Timing::default(), Timing::default());
         for _ in 0..ROUNDS {

@@ -7,7 +7,8 @@
 //! For each mode count and number of terms, two operators of random two-body terms are drawn. zixy multiplies f64
 //! coefficients into a set of terms of its own; the library reads and checks two records, works in lent memory that it
 //! wipes, and writes one record. A call that the library refuses is told apart and gives no ratio.
-use programs::operators::{operator, record, zixy_terms, Draw, Operator};
+use programs::draw::Draw;
+use programs::operators::{operator, record, zixy_terms, Operator};
 use programs::timing::{self, Symbol, Timing, ROUNDS};
 use std::hint::black_box;
 use zixy::container::traits::proj::Borrow;
@@ -27,7 +28,7 @@ fn main() {
             let a = operator(&mut draw, m, n, &Operator::new());
             let b = operator(&mut draw, m, n, &Operator::new());
             let (left, right) = (record(m, &a), record(m, &b));
-            let (zixy_left, zixy_right) = (zixy_terms(m, &a), zixy_terms(m, &b));
+            let (zixy_left, zixy_right) = (zixy_terms(m, &a, |c| c), zixy_terms(m, &b, |c| c));
             let mut work = vec![0u8; 24 * 32_768];
             let mut out = vec![0u8; 49_184];
             let mut answer = [0u64; 8];

@@ -1,0 +1,115 @@
+-- The checks before the sum, case by case: the lists, a term, and the bra and the ket.
+use mathlib.Core.Path.{_≡_, refl, sym, ap, _∙_}
+use mathlib.Core.Bool.{Bool, true, false, cond, _&&_, and-true, and-false}
+use mathlib.Core.List.{List, [], _∷_}
+use Prim.Native.Nat.{ℕ, _+_, _^_, _≤_, _<_}
+use native.Mathlib.Omega.{arith}
+use lib.Dec.{eqb, ltb, leb}
+use lib.ListN.{length}
+use lib.Ieee.{Float}
+use lib.Ieee.Scale.{finite}
+use borrow.Author.Tests.{eq-eqb, ne-eqb, le-leb, lt-leb, eqb-true}
+use Rattle.modes.specs.Spaces.{spaceOf}
+use Rattle.modes.specs.Answers.{refusal, none}
+use Rattle.modes.specs.declared.Refusal.{Refusal}
+use Rattle.modes.specs.declared.MadeSpace.{MadeSpace}
+use Rattle.modes.specs.declared.MadeSpace.the-variants.{Refused}
+use Rattle.modes.proofs.Bools.{and-l, and-r}
+use Rattle.record.specs.Layout.{isMade}
+use Rattle.record.specs.Refusals.{orElse}
+use Rattle.record.proofs.Refusals.{or-first, or-second}
+use Rattle.float_elem.specs.Elements.{allFinite, listed, firstOf, termRefusal, termAt}
+use Rattle.float_elem.specs.Lengths.{OneLength}
+use Rattle.float_elem.proofs.Firsts.{first-goes, first-stays}
+
+-- ---- the lists
+
+module _ (m : ℕ) (cre ann : List ℕ) (re im : List Float) where
+  pub no-space : spaceOf m ≡ Refused → false ≡ listed m cre ann (re ∷ im ∷ [])
+  unfolding listed
+  no-space e = rw e
+
+  pub too-many : 2048 < length cre → false ≡ listed m cre ann (re ∷ im ∷ [])
+  unfolding listed
+  too-many h = simp (lt-leb _ _ h, and-false)
+
+  pub other-ann : (length ann ≡ length cre → ⊥) → false ≡ listed m cre ann (re ∷ im ∷ [])
+  unfolding listed
+  other-ann h = simp (ne-eqb _ _ h, and-false)
+
+  pub other-re : (length re ≡ length cre → ⊥) → false ≡ listed m cre ann (re ∷ im ∷ [])
+  unfolding listed
+  other-re h = simp (ne-eqb _ _ h, and-false)
+
+  pub im-decides : (s : MadeSpace) → s ≡ spaceOf m → isMade s ≡ true → length cre ≤ 2048 → length ann ≡ length cre → length re ≡ length cre
+      → eqb (length im) (length cre) ≡ listed m cre ann (re ∷ im ∷ [])
+  unfolding listed
+  im-decides s e y few a r = rw (← e, y, le-leb _ _ few, eq-eqb _ _ a, eq-eqb _ _ r, and-true)
+
+  pub lengths : (b : Bool) → b ≡ listed m cre ann (re ∷ im ∷ []) → b ≡ true → OneLength (length cre) ann re im
+  unfolding listed
+  lengths b e t =
+      let few = and-r (isMade (spaceOf m)) _ (sym e ∙ t) in
+      let anns = and-r (leb (length cre) 2048) _ few in
+      let res = and-r (eqb (length ann) (length cre)) _ anns in
+      let ims = and-r (eqb (length re) (length cre)) _ res in
+      record {
+        anns = eqb-true _ _ (and-l (eqb (length ann) (length cre)) _ anns);
+        res = eqb-true _ _ (and-l (eqb (length re) (length cre)) _ res);
+        ims = eqb-true _ _ (and-l (eqb (length im) (length cre)) _ ims);
+      }
+
+-- ---- a term
+
+-- a number that isn't finite, and numbers that are
+pub first-out : (x y : Float) → finite x ≡ false → false ≡ allFinite (x ∷ y ∷ [])
+first-out x y e = rw e
+
+pub second-decides : (x y : Float) → finite x ≡ true → finite y ≡ allFinite (x ∷ y ∷ [])
+second-decides x y e = rw (e, and-true)
+
+module _ (m i cre ann : ℕ) (c : List Float) where
+  pub ann-outside : ltb ann (2 ^ m) ≡ false → refusal 2 1 i ≡ termRefusal m i cre ann c
+  unfolding termRefusal
+  ann-outside a = rw a
+
+  pub cre-outside : ltb cre (2 ^ m) ≡ false → refusal 2 1 i ≡ termRefusal m i cre ann c
+  unfolding termRefusal
+  cre-outside a = rw (a, and-false (ltb ann (2 ^ m)))
+
+  module _ (a : ltb ann (2 ^ m) ≡ true) (b : ltb cre (2 ^ m) ≡ true) where
+    pub not-finite : allFinite c ≡ false → refusal 13 1 i ≡ termRefusal m i cre ann c
+    unfolding termRefusal
+    not-finite f = rw (a, b, f)
+
+    pub right-term : allFinite c ≡ true → none ≡ termRefusal m i cre ann c
+    unfolding termRefusal
+    right-term f = rw (a, b, f)
+
+  -- a refusal without a number is none
+  pub no-number : termRefusal m i cre ann c .number ≡ 0 → termRefusal m i cre ann c ≡ none
+  unfolding termRefusal
+  no-number = go (ltb ann (2 ^ m) && ltb cre (2 ^ m)) (allFinite c)
+    where
+      go : (a b : Bool) → (cond a (cond b none (refusal 13 1 i)) (refusal 2 1 i)) .number ≡ 0 → cond a (cond b none (refusal 13 1 i)) (refusal 2 1 i) ≡ none
+      go true true z = refl
+      go true false z = absurd (omega arith)
+      go false b z = absurd (omega arith)
+
+-- ---- all terms
+
+module _ (m : ℕ) (cre ann : List ℕ) (parts : List (List Float)) (i : ℕ) (so : firstOf (termAt m cre ann parts) i ≡ none) (r : Refusal) (e : r ≡ termAt m cre ann parts i) where
+  pub terms-go : r .number ≡ 0 → firstOf (termAt m cre ann parts) (i + 1) ≡ none
+  terms-go z = first-goes _ i so (no-number _ _ _ _ _ (ap (λ (x : Refusal). x .number) (sym e) ∙ z))
+
+  pub terms-stop : (r .number ≡ 0 → ⊥) → i < length cre → r ≡ firstOf (termAt m cre ann parts) (length cre)
+  terms-stop n l = e ∙ sym (first-stays _ i so (λ z. n (ap (λ (x : Refusal). x .number) e ∙ z)) (length cre) l)
+
+-- ---- two refusals in order
+
+module _ (r a b : Refusal) (e : r ≡ a) where
+  pub the-first : (r .number ≡ 0 → ⊥) → r ≡ orElse a b
+  the-first n = sym (ap (λ (x : Refusal). orElse x b) (sym e) ∙ or-first r b n)
+
+  pub the-second : r .number ≡ 0 → b ≡ orElse a b
+  the-second z = sym (ap (λ (x : Refusal). orElse x b) (sym e) ∙ or-second r b z)

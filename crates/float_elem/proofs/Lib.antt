@@ -1,0 +1,8 @@
+pub mod Finite
+pub mod Exact
+pub mod Firsts
+pub mod Checking
+pub mod Summing
+pub mod Answering
+pub mod Theorems
+pub mod Unique

@@ -1,0 +1,92 @@
+-- The running sum, term by term: what a term adds to a part, and what the sums of all parts so far show.
+use mathlib.Core.Path.{_≡_, refl, sym, ap, _∙_}
+use mathlib.Core.Bool.{Bool, true, false, cond}
+use mathlib.Core.List.{List, [], _∷_}
+use Prim.Native.Nat.{ℕ, suc, _+_, _<_}
+use native.Mathlib.Numerals.{add-one}
+use native.Mathlib.Omega.{arith}
+use lib.ListN.{length, getD}
+use lib.Ieee.{Float, nan, add, binary64}
+use borrow.Author.Tests.{eq-eqb, ne-eqb}
+use Rattle.modes.specs.Answers.{refusal, none}
+use Rattle.modes.specs.declared.Refusal.{Refusal}
+use Rattle.modes.specs.declared.Sign.{Sign}
+use Rattle.products.specs.PhaseRule.{Outcome, went, term}
+use Rattle.products.specs.Apply.{applied}
+use Rattle.products.specs.declared.ApplyResult.the-variants.{Applied, Zero}
+use Rattle.products.proofs.Outcomes.{outcome-gone, outcome-went}
+use Rattle.float_elem.specs.declared.Complex64.{Complex64}
+use Rattle.float_elem.specs.Sums.{plusZero, signed, added, joined, sumTo}
+use Rattle.float_elem.specs.Answers.{Told, unless}
+use Rattle.float_elem.specs.Elements.{allFinite, firstOf, sumAt, sumRefusal, summed}
+use Rattle.float_elem.proofs.Firsts.{first-starts, first-goes, first-stays}
+
+-- ---- one term and one part
+
+module _ (bra ket cre ann : ℕ) where
+  abbrev outcome : Outcome
+  outcome = term cre ann (went ket false)
+
+  module _ (c x : Float) where
+    zero : Zero ≡ applied cre ann ket → x ≡ joined bra ket cre ann c x
+    zero e = sym (ap (added bra c x) (outcome-gone outcome e))
+
+    there : (word : ℕ) (sign : Sign) → Applied word sign ≡ applied cre ann ket → joined bra ket cre ann c x ≡ added bra c x (went word (sign .0))
+    there word sign e = ap (added bra c x) (outcome-went word sign outcome e)
+
+    other : (word : ℕ) (sign : Sign) → Applied word sign ≡ applied cre ann ket → (word ≡ bra → ⊥) → x ≡ joined bra ket cre ann c x
+    other word sign e n = sym (there word sign e ∙ rw (ne-eqb word bra n))
+
+    here : (word : ℕ) (sign : Sign) → Applied word sign ≡ applied cre ann ket → word ≡ bra → (s : Bool) → sign .0 ≡ s
+        → add binary64 x (signed s c) ≡ joined bra ket cre ann c x
+    here word sign e h s es = sym (there word sign e ∙ rw (eq-eqb word bra h, es))
+
+  -- both parts
+  module _ (c x : Complex64) where
+    abbrev Both : Float → Float → Type 0
+    Both y z = (y ≡ joined bra ket cre ann (c .re) (x .re)) × (z ≡ joined bra ket cre ann (c .im) (x .im))
+
+    pub joined-zero : Zero ≡ applied cre ann ket → Both (x .re) (x .im)
+    joined-zero e = (zero (c .re) (x .re) e, zero (c .im) (x .im) e)
+
+    module _ (word : ℕ) (sign : Sign) (e : Applied word sign ≡ applied cre ann ket) where
+      pub joined-other : (word ≡ bra → ⊥) → Both (x .re) (x .im)
+      joined-other n = (other (c .re) (x .re) word sign e n, other (c .im) (x .im) word sign e n)
+
+      pub joined-here : word ≡ bra → (s : Bool) → sign .0 ≡ s → Both (add binary64 (x .re) (signed s (c .re))) (add binary64 (x .im) (signed s (c .im)))
+      joined-here h s es = (here (c .re) (x .re) word sign e h s es, here (c .im) (x .im) word sign e h s es)
+
+-- ---- the running sums
+
+pub record Running (bra ket : ℕ) (cre ann : List ℕ) (re im : List Float) (x y : Float) (i : ℕ) : Type 0 where
+  pub res : x ≡ sumTo bra ket cre ann re i
+  pub ims : y ≡ sumTo bra ket cre ann im i
+  pub fine : firstOf (sumAt bra ket cre ann (re ∷ im ∷ [])) i ≡ none
+
+module _ (bra ket : ℕ) (cre ann : List ℕ) (re im : List Float) where
+  pub sums-start : (i : ℕ) → i ≡ 0 → Running bra ket cre ann re im plusZero plusZero i
+  unfolding sumTo
+  sums-start i e = rw e (record { res = refl; ims = refl; fine = first-starts _ })
+
+  part-on : (cs : List Float) (i : ℕ) (x z : Float) → x ≡ sumTo bra ket cre ann cs i → z ≡ joined bra ket (getD cre i 0) (getD ann i 0) (getD cs i nan) x → z ≡ sumTo bra ket cre ann cs (suc i)
+  unfolding sumTo
+  part-on cs i x z e h = h ∙ ap (joined bra ket (getD cre i 0) (getD ann i 0) (getD cs i nan)) e
+
+  module _ (x y : Float) (i : ℕ) (so : Running bra ket cre ann re im x y i) (z w : Float)
+      (ez : z ≡ joined bra ket (getD cre i 0) (getD ann i 0) (getD re i nan) x) (ew : w ≡ joined bra ket (getD cre i 0) (getD ann i 0) (getD im i nan) y) where
+    at : (b : Bool) → allFinite (z ∷ w ∷ []) ≡ b → sumAt bra ket cre ann (re ∷ im ∷ []) i ≡ cond b none (refusal 13 1 i)
+    at b e = rw (← part-on re i x z (so .res) ez, ← part-on im i y w (so .ims) ew, e)
+
+    pub sums-go : allFinite (z ∷ w ∷ []) ≡ true → (j : ℕ) → j ≡ i + 1 → Running bra ket cre ann re im z w j
+    sums-go f j e =
+        rw (e, add-one) (record { res = part-on re i x z (so .res) ez; ims = part-on im i y w (so .ims) ew; fine = rw add-one at (first-goes _ i (so .fine) (at true f)) })
+
+    pub sums-stop : allFinite (z ∷ w ∷ []) ≡ false → i < length cre → _≡_ {A = Told} (record { refusal = refusal 13 1 i; values = [] }) (summed bra ket cre ann (re ∷ im ∷ []))
+    unfolding sumRefusal unless
+    sums-stop e l =
+        let has : sumAt bra ket cre ann (re ∷ im ∷ []) i .number ≡ 0 → ⊥ = λ q. absurd (omega (arith, ap (λ (r : Refusal). r .number) (at false e))) in
+        rw (first-stays _ i (so .fine) has (length cre) l, at false e)
+
+  pub sums-end : (x y : Float) (i : ℕ) → Running bra ket cre ann re im x y i → i ≡ length cre → _≡_ {A = Told} (record { refusal = none; values = x ∷ y ∷ [] }) (summed bra ket cre ann (re ∷ im ∷ []))
+  unfolding sumRefusal unless
+  sums-end x y i so e = rw (← e, so .fine, ← so .res, ← so .ims)
