@@ -37,6 +37,16 @@ void fermion_add(const uint8_t *a, size_t a_len, const uint8_t *b, size_t b_len,
                  uint8_t *out, size_t out_len, uint64_t answer[8]);
 void fermion_sub(const uint8_t *a, size_t a_len, const uint8_t *b, size_t b_len,
                  uint8_t *out, size_t out_len, uint64_t answer[8]);
+
+/* The product a b, the commutator a b - b a and the anticommutator a b + b a. The work holds one row of 24 bytes a branch,
+ * and is all zero after every call, refused or not. [4] the branches. 8: the product of the two weights; 7: the work. */
+void fermion_mul(const uint8_t *a, size_t a_len, const uint8_t *b, size_t b_len,
+                 uint8_t *work, size_t work_len, uint8_t *out, size_t out_len, uint64_t answer[8]);
+void fermion_commutator(const uint8_t *a, size_t a_len, const uint8_t *b, size_t b_len,
+                        uint8_t *work, size_t work_len, uint8_t *out, size_t out_len, uint64_t answer[8]);
+void fermion_anticommutator(const uint8_t *a, size_t a_len, const uint8_t *b, size_t b_len,
+                            uint8_t *work, size_t work_len, uint8_t *out, size_t out_len, uint64_t answer[8]);
+
 void fermion_adjoint(const uint8_t *a, size_t a_len, uint8_t *out, size_t out_len, uint64_t answer[8]);
 
 /* [5] 1 or 0 */

@@ -3,15 +3,26 @@ use mathlib.Core.Path.{refl, ap}
 use mathlib.Core.Bool.{false}
 use Rattle.modes.specs.Bools.{_⊕_}
 use Rattle.modes.specs.Words.{bit, each}
-use Rattle.modes.specs.Counts.{odd, oddExchanges}
+use Rattle.modes.specs.Counts.{count, odd, oddExchanges}
+use Rattle.lent.specs.Bytes.{bytes, num, numAt}
 use Rattle.products.specs.PhaseRule.{went, term, ladders, ladder}
+use Rattle.products.specs.Operators.{element}
 use Rattle.products.specs.Apply.{resultOf}
 use Rattle.products.specs.Product.{choices, rowsTimes}
 use Rattle.products.proofs.ClosedForm.{term-none}
+use Rattle.record.specs.Numbers.{stored, numbers, sameNumbers}
+use Rattle.record.specs.Terms.{before, weight}
+use Rattle.record.specs.Example.{example}
+use Rattle.record.specs.Layout.{header, column, columns, together, termsIn, laidOut}
+use Rattle.record.specs.Refusals.{orElse, inside, termRefusal, termsRefusal, refusalOf}
+use Rattle.lincomb.specs.Normal.{join, insert, collect, dropZeros}
+use Rattle.lincomb.specs.Results.{pairRefusal, resultRefusal, recordOutput}
+use Rattle.multiply.specs.Products.{pairRows, rowsWith, allRows, branchesWith, allBranches}
+use Rattle.multiply.specs.Answers.{weightRefusal, workRefusal}
 use Rattle.fermion.specs.Cases.{cases, AllHold}
 
 pub cases-hold : AllHold cases
-unfolding term ladders ladder bit odd oddExchanges each choices rowsTimes _⊕_
+unfolding term ladders ladder bit odd oddExchanges each choices rowsTimes _⊕_ count element bytes num numAt stored numbers sameNumbers before weight header column columns together termsIn laidOut orElse inside termRefusal termsRefusal refusalOf join insert collect dropZeros pairRefusal resultRefusal recordOutput pairRows rowsWith allRows branchesWith allBranches weightRefusal workRefusal example
 cases-hold = (
   refl,
   (
@@ -30,7 +41,7 @@ cases-hold = (
                 refl,
                 (
                   (λ ket. ap resultOf (term-none (went ket false))),
-                  (refl, (refl, (refl, (refl, (refl, (refl, (refl, tt))))))),
+                  (refl, (refl, (refl, (refl, (refl, (refl, (refl, (refl, (refl, (refl, (refl, (refl, (refl, tt))))))))))))),
                 ),
               ),
             ),

@@ -5,7 +5,7 @@ use Prim.Native.Nat.{ℕ}
 use lib.Ieee.{Float}
 use Rattle.lent.specs.Outputs.{Output}
 use Rattle.float_elem.specs.Answers.{Told}
-use Rattle.fermion.specs.Face.{Fills, FillsFloat}
+use Rattle.fermion.specs.Face.{Fills, FillsClean, FillsFloat}
 
 -- once for every call that fills no output: its promise names the eight numbers
 pub answer-one : {numbers answer answer′ : List ℕ} → answer ≡ numbers → answer′ ≡ numbers → answer ≡ answer′
@@ -14,6 +14,11 @@ answer-one g h = g ∙ sym h
 -- once for every call that fills an output
 pub fills-one : {o : Output} {out out′ answer answer′ : List ℕ} → Fills o out answer → Fills o out′ answer′ → (out ≡ out′) × (answer ≡ answer′)
 fills-one g h = (g .bytes ∙ sym (h .bytes), g .numbers ∙ sym (h .numbers))
+
+-- once for every call that is lent work too
+pub fills-clean-one : {o : Output} {out out′ answer answer′ : List ℕ} {room : ℕ} {work work′ : List ℕ} → FillsClean o out answer room work → FillsClean o out′ answer′ room work′
+    → (out ≡ out′) × (answer ≡ answer′) × (work ≡ work′)
+fills-clean-one g h = let one = fills-one (g .fills) (h .fills) in (one .0, one .1, g .clean ∙ sym (h .clean))
 
 -- once for both float elements
 pub fills-float-one : {t : Told} {value value′ : List Float} {answer answer′ : List ℕ} → FillsFloat t value answer → FillsFloat t value′ answer′

@@ -5,10 +5,16 @@ use mathlib.Core.List.{List, [], _∷_}
 use Prim.Native.Nat.{ℕ, _-_, _^_}
 use lib.IntN.{ℤ, pos, negsuc}
 use Rattle.modes.specs.declared.Term.{Term}
+use Rattle.modes.specs.Answers.{refusal}
+use Rattle.lent.specs.Outputs.{Output, refusedOutput, filledOutput}
 use Rattle.products.specs.Apply.{applied}
+use Rattle.products.specs.Operators.{element}
 use Rattle.products.specs.Product.{rowsTimes}
 use Rattle.products.specs.declared.ApplyResult.{ApplyResult}
 use Rattle.products.specs.declared.ApplyResult.the-variants.{Applied, Zero}
+use Rattle.record.specs.Example.{example}
+use Rattle.record.specs.Layout.{encode, termsOf}
+use Rattle.multiply.specs.Answers.{commutatorOf}
 
 abbrev plus : ℕ → ApplyResult
 plus w = Applied w (record { 0 = false })
@@ -26,6 +32,10 @@ one = pos 1
 abbrev minus-one : ℤ
 minus-one = negsuc 0
 
+-- one term with coefficient 1 on two modes
+abbrev record-of : ℕ → ℕ → List ℕ
+record-of cre ann = encode 2 (row cre ann one ∷ [])
+
 pub data Case : Type 0 where
   -- {l-cre|l-ann} times {r-cre|r-ann} has these rows, in this order
   product : (l-cre l-ann r-cre r-ann : ℕ) → List Term → Case
@@ -33,11 +43,17 @@ pub data Case : Type 0 where
   gives : (cre ann ket : ℕ) → ApplyResult → Case
   -- {cre|ann} on any ket gives that ket, plus
   keeps : (cre ann : ℕ) → Case
+  -- the commutator of two records, for a work and an output of these lengths, answers and leaves this
+  commutes : (a b : List ℕ) (work room : ℕ) → Output → Case
+  -- a record's element at (bra, ket)
+  element-is : (l : List ℕ) (bra ket : ℕ) → ℤ → Case
 
 abbrev pub Holds : Case → Type 0
 Holds (product l-cre l-ann r-cre r-ann rows) = rowsTimes l-cre l-ann r-cre r-ann (pos 1) ≡ rows
 Holds (gives cre ann ket r) = applied cre ann ket ≡ r
 Holds (keeps cre ann) = (ket : ℕ) → applied cre ann ket ≡ plus ket
+Holds (commutes a b work room o) = commutatorOf work room a b ≡ o
+Holds (element-is l bra ket z) = element bra ket (termsOf l) ≡ z
 
 -- a case with its number
 pub record Numbered : Type 0 where
@@ -66,6 +82,12 @@ cases =
     ∷ (12 ▸ gives (2 ^ 63) 0 (2 ^ 63 - 1) (minus (2 ^ 64 - 1)))
     ∷ (13 ▸ gives 0 3 3 (minus 0))
     ∷ (13 ▸ gives 3 0 0 (plus 3))
+    ∷ (14 ▸ commutes (record-of 1 2) (record-of 2 1) 96 80 (filledOutput 80 4 example))
+    ∷ (14 ▸ element-is example 1 1 one)
+    ∷ (14 ▸ element-is example 2 2 minus-one)
+    ∷ (14 ▸ element-is example 3 3 (pos 0))
+    ∷ (14 ▸ commutes (record-of 1 2) (record-of 2 1) 95 80 (refusedOutput 80 (refusal 7 0 0)))
+    ∷ (14 ▸ commutes (record-of 1 2) (record-of 2 1) 96 79 (refusedOutput 79 (refusal 11 0 0)))
     ∷ []
 
 abbrev pub AllHold : List Numbered → Type 0

@@ -10,6 +10,7 @@ use mir.Val.{ofZ}
 use Rattle.modes.specs.Answers.{none}
 use Rattle.modes.specs.declared.Refusal.{Refusal}
 use Rattle.modes.specs.declared.Written.{Written}
+use Rattle.lent.specs.Bytes.{zeros}
 use Rattle.lent.specs.Outputs.{Output}
 use Rattle.products.specs.declared.ApplyResult.{ApplyResult}
 use Rattle.products.specs.declared.ApplyResult.the-variants.{Applied, Zero}
@@ -61,6 +62,11 @@ writtenAnswer w = w .refusal .number ∷ w .refusal .operand ∷ w .refusal .pla
 pub record Fills (o : Output) (out answer : List ℕ) : Type 0 where
   pub bytes : out ≡ o .bytes
   pub numbers : answer ≡ writtenAnswer (o .answer)
+
+-- and the work, of room bytes, is all zero
+pub record FillsClean (o : Output) (out answer : List ℕ) (room : ℕ) (work : List ℕ) : Type 0 where
+  pub fills : Fills o out answer
+  pub clean : work ≡ zeros room
 
 -- a float element: its values, re and im, with plus zero in the place of those that it has not; and its refusal
 abbrev pub floatValues : Told → List Float

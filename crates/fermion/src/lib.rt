@@ -6,6 +6,7 @@ ghost use lib.ListN.{length};
 ghost use Rattle.products.specs.Apply.{applied};
 ghost use Rattle.products.specs.Product.{multiplied};
 ghost use Rattle.lincomb.specs.Sums.{added, subtracted};
+ghost use Rattle.multiply.specs.Answers.{productOf, commutatorOf, anticommutatorOf};
 ghost use Rattle.adjoint.specs.Adjoint.{adjointed};
 ghost use Rattle.adjoint.specs.Hermitian.{hermitianOf};
 ghost use Rattle.mat_elem.specs.Elements.{elementOf};
@@ -14,7 +15,7 @@ ghost use Rattle.float_elem.specs.Elements.{floatElement};
 ghost use Rattle.record.specs.Refusals.{checkedOf};
 ghost use Rattle.record.specs.Blocks.{blockOf};
 ghost use Rattle.record.specs.Figures.{conservesOf, maxNBodyOf, activeModesOf};
-ghost use Rattle.fermion.specs.Face.{values, applyAnswer, writtenAnswer, answered, checkedAnswer, testedAnswer, measuredAnswer, stretchAnswer, elementAnswer, Fills, floatValues, floatAnswer, FillsFloat};
+ghost use Rattle.fermion.specs.Face.{values, applyAnswer, writtenAnswer, answered, checkedAnswer, testedAnswer, measuredAnswer, stretchAnswer, elementAnswer, Fills, FillsClean, floatValues, floatAnswer, FillsFloat};
 use float_elem::FloatElement;
 use mat_elem::Exact;
 use modes::Refusal;
@@ -123,6 +124,48 @@ pub extern "C" fn fermion_sub(a: &[u8], b: &[u8], out: &mut [u8], answer: &mut [
     ensures { λ _. ⌜ Fills (subtracted (length (now (out .entry))) (now (a .entry)) (now (b .entry))) (now (out .exit)) (now (answer .exit)) ⌝ }
 {
     let w = lincomb::sub(a, b, out);
+    *answer = written(w);
+}
+
+#[no_mangle]
+pub extern "C" fn fermion_mul(
+    a: &[u8],
+    b: &[u8],
+    work: &mut [u8],
+    out: &mut [u8],
+    answer: &mut [u64; 8],
+)
+    ensures { λ _. ⌜ FillsClean (productOf (length (now (work .entry))) (length (now (out .entry))) (now (a .entry)) (now (b .entry))) (now (out .exit)) (now (answer .exit)) (length (now (work .entry))) (now (work .exit)) ⌝ }
+{
+    let w = multiply::mul(a, b, work, out);
+    *answer = written(w);
+}
+
+#[no_mangle]
+pub extern "C" fn fermion_commutator(
+    a: &[u8],
+    b: &[u8],
+    work: &mut [u8],
+    out: &mut [u8],
+    answer: &mut [u64; 8],
+)
+    ensures { λ _. ⌜ FillsClean (commutatorOf (length (now (work .entry))) (length (now (out .entry))) (now (a .entry)) (now (b .entry))) (now (out .exit)) (now (answer .exit)) (length (now (work .entry))) (now (work .exit)) ⌝ }
+{
+    let w = multiply::commutator(a, b, work, out);
+    *answer = written(w);
+}
+
+#[no_mangle]
+pub extern "C" fn fermion_anticommutator(
+    a: &[u8],
+    b: &[u8],
+    work: &mut [u8],
+    out: &mut [u8],
+    answer: &mut [u64; 8],
+)
+    ensures { λ _. ⌜ FillsClean (anticommutatorOf (length (now (work .entry))) (length (now (out .entry))) (now (a .entry)) (now (b .entry))) (now (out .exit)) (now (answer .exit)) (length (now (work .entry))) (now (work .exit)) ⌝ }
+{
+    let w = multiply::anticommutator(a, b, work, out);
     *answer = written(w);
 }
 

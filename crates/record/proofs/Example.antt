@@ -1,7 +1,6 @@
--- The record of the specification's example, byte by byte: the definitions encode it so, read it so, and accept it.
+-- The definitions encode the example record so, read it so, and accept it.
 use mathlib.Core.Path.{_≡_, refl}
 use mathlib.Core.List.{List, [], _∷_}
-use Prim.Native.Nat.{ℕ}
 use lib.IntN.{pos, negsuc}
 use Rattle.modes.specs.declared.Term.{Term}
 use Rattle.modes.specs.Answers.{none}
@@ -9,13 +8,8 @@ use Rattle.lent.specs.Bytes.{bytes, num, numAt}
 use Rattle.record.specs.Numbers.{stored, numbers, sameNumbers}
 use Rattle.record.specs.Terms.{before, weight}
 use Rattle.record.specs.Layout.{header, column, columns, encode, together, termsIn, termsOf, laidOut}
+use Rattle.record.specs.Example.{example}
 use Rattle.record.specs.Refusals.{orElse, inside, termRefusal, termsRefusal, refusalOf}
-
-unfoldable pub example : List ℕ
-example =
-    1 ∷ 0 ∷ 0 ∷ 0 ∷ 2 ∷ 0 ∷ 0 ∷ 0 ∷ 2 ∷ 0 ∷ 0 ∷ 0 ∷ 0x20 ∷ 0 ∷ 0 ∷ 0 ∷ 0x30 ∷ 0 ∷ 0 ∷ 0 ∷ 0x40 ∷ 0 ∷ 0 ∷ 0 ∷ 0x50 ∷ 0 ∷ 0 ∷ 0 ∷ 0 ∷ 0 ∷ 0 ∷ 0
-    ∷ 1 ∷ 0 ∷ 0 ∷ 0 ∷ 0 ∷ 0 ∷ 0 ∷ 0 ∷ 2 ∷ 0 ∷ 0 ∷ 0 ∷ 0 ∷ 0 ∷ 0 ∷ 0 ∷ 1 ∷ 0 ∷ 0 ∷ 0 ∷ 0 ∷ 0 ∷ 0 ∷ 0 ∷ 2 ∷ 0 ∷ 0 ∷ 0 ∷ 0 ∷ 0 ∷ 0 ∷ 0
-    ∷ 1 ∷ 0 ∷ 0 ∷ 0 ∷ 0 ∷ 0 ∷ 0 ∷ 0 ∷ 0xff ∷ 0xff ∷ 0xff ∷ 0xff ∷ 0xff ∷ 0xff ∷ 0xff ∷ 0xff ∷ []
 
 -- {0|0} with 1 and {1|1} with -1
 abbrev pub terms : List Term

@@ -8,3 +8,4 @@ pub mod Reading
 pub mod Weights
 pub mod Blocks
 pub mod Figures
+pub mod Example
