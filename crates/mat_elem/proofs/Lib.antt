@@ -1,3 +1,7 @@
 pub mod Summing
 pub mod Answering
+pub mod Bases
+pub mod Filling
+pub mod Projecting
+pub mod MatrixTheorems
 pub mod Unique
