@@ -2,8 +2,10 @@
 use mathlib.Core.Path.{_≡_, sym, _∙_}
 use mathlib.Core.List.{List}
 use Prim.Native.Nat.{ℕ}
+use lib.IntN.{ℤ}
 use Rattle.lent.specs.Outputs.{Output}
-use Rattle.fermion.specs.Face.{Fills}
+use Rattle.mat_elem.specs.declared.Projected.{Projected}
+use Rattle.fermion.specs.Face.{Fills, FillsMatrix}
 
 -- once for every call that fills no output: its promise names the eight numbers
 pub answer-one : {numbers answer answer′ : List ℕ} → answer ≡ numbers → answer′ ≡ numbers → answer ≡ answer′
@@ -12,3 +14,8 @@ answer-one g h = g ∙ sym h
 -- once for every call that fills an output
 pub fills-one : {o : Output} {out out′ answer answer′ : List ℕ} → Fills o out answer → Fills o out′ answer′ → (out ≡ out′) × (answer ≡ answer′)
 fills-one g h = (g .bytes ∙ sym (h .bytes), g .numbers ∙ sym (h .numbers))
+
+-- the call that fills a matrix
+pub matrix-one : {p : Projected} {matrix matrix′ : List ℤ} {answer answer′ : List ℕ} → FillsMatrix p matrix answer → FillsMatrix p matrix′ answer′
+    → (matrix ≡ matrix′) × (answer ≡ answer′)
+matrix-one g h = (g .entries ∙ sym (h .entries), g .numbers ∙ sym (h .numbers))

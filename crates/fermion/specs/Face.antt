@@ -1,8 +1,9 @@
 -- The eight numbers of an answer at the C face: the refusal's number, operand and place, the length, the branches or rows, and the call's own three values.
 use mathlib.Core.Path.{_≡_}
 use mathlib.Core.Bool.{cond}
-use mathlib.Core.List.{List, [], _∷_}
+use mathlib.Core.List.{List, [], _∷_, _++_}
 use Prim.Native.Nat.{ℕ}
+use lib.IntN.{ℤ}
 use mir.Syntax.{w64}
 use mir.Val.{ofZ}
 use Rattle.modes.specs.Answers.{none}
@@ -16,6 +17,9 @@ use Rattle.record.specs.declared.Tested.{Tested}
 use Rattle.record.specs.declared.Measured.{Measured}
 use Rattle.record.specs.declared.Stretch.{Stretch}
 use Rattle.mat_elem.specs.declared.Exact.{Exact}
+use Rattle.mat_elem.specs.declared.Row.{Row}
+use Rattle.mat_elem.specs.declared.Projected.{Projected}
+use Rattle.compare.specs.declared.Compared.{Compared}
 
 -- a call that fills no output: its refusal, and its own three values
 abbrev pub answered : Refusal → ℕ → ℕ → ℕ → List ℕ
@@ -57,3 +61,17 @@ writtenAnswer w = w .refusal .number ∷ w .refusal .operand ∷ w .refusal .pla
 pub record Fills (o : Output) (out answer : List ℕ) : Type 0 where
   pub bytes : out ≡ o .bytes
   pub numbers : answer ≡ writtenAnswer (o .answer)
+
+-- a comparison: 1 where equal, and the bra and the ket that are named
+abbrev pub comparedAnswer : Compared → List ℕ
+comparedAnswer c = answered (c .refusal) (cond (c .equal) 1 0) (c .bra) (c .ket)
+
+-- the rows of a matrix one after the other
+unfoldable pub inRows : List Row → List ℤ
+inRows [] = []
+inRows (r ∷ rows) = r .entries ++ inRows rows
+
+-- the matrix and the answer at the end are those of the value
+pub record FillsMatrix (p : Projected) (matrix : List ℤ) (answer : List ℕ) : Type 0 where
+  pub entries : matrix ≡ inRows (p .rows)
+  pub numbers : answer ≡ answered (p .refusal) 0 0 0

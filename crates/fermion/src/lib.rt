@@ -8,11 +8,16 @@ ghost use Rattle.lincomb.specs.Sums.{added, subtracted};
 ghost use Rattle.adjoint.specs.Adjoint.{adjointed};
 ghost use Rattle.adjoint.specs.Hermitian.{hermitianOf};
 ghost use Rattle.mat_elem.specs.Elements.{elementOf};
+ghost use Rattle.mat_elem.specs.Matrix.{EightRows, projectedOf};
+ghost use Rattle.compare.specs.Comparison.{comparedOf};
 ghost use Rattle.record.specs.Refusals.{checkedOf};
 ghost use Rattle.record.specs.Blocks.{blockOf};
 ghost use Rattle.record.specs.Figures.{conservesOf, maxNBodyOf, activeModesOf};
+ghost use Rattle.fermion.specs.Face.{comparedAnswer, inRows, FillsMatrix};
 ghost use Rattle.fermion.specs.Face.{values, applyAnswer, writtenAnswer, answered, checkedAnswer, testedAnswer, measuredAnswer, stretchAnswer, elementAnswer, Fills};
+use compare::Compared;
 use mat_elem::Exact;
+use mat_elem::Projected;
 use modes::Refusal;
 use modes::Written;
 use products::ApplyResult;
@@ -171,4 +176,49 @@ pub extern "C" fn fermion_element(a: &[u8], bra: u64, ket: u64, answer: &mut [u6
     ensures { λ _. ⌜ now (answer .exit) ≡ elementAnswer (elementOf (now (a .entry)) bra ket) ⌝ }
 {
     *answer = exact(mat_elem::element(a, bra, ket));
+}
+
+fn compared(c: Compared) -> [u64; 8]
+    ensures { λ a. ⌜ a ≡ comparedAnswer c ⌝ }
+{
+    answer_of(c.refusal, flag(c.equal), c.bra, c.ket)
+}
+
+#[no_mangle]
+pub extern "C" fn fermion_compare(a: &[u8], b: &[u8], answer: &mut [u64; 8])
+    ensures { λ _. ⌜ now (answer .exit) ≡ comparedAnswer (comparedOf (now (a .entry)) (now (b .entry))) ⌝ }
+{
+    *answer = compared(compare::compare(a, b));
+}
+
+// the eight rows one after the other
+fn in_rows(p: Projected) -> [i64; 64]
+    requires { ⌜ EightRows (p .rows) ⌝ }
+    ensures { λ m. ⌜ m ≡ inRows (p .rows) ⌝ }
+{
+    let rows = p.rows;
+    let mut m = [0i64; 64];
+    let mut k = 0;
+    while k < 64 {
+        let i = k / 8;
+        let j = k % 8;
+        let row = rows[i];
+        m[k] = row.entries[j];
+        k += 1;
+    }
+    m
+}
+
+#[no_mangle]
+pub extern "C" fn fermion_mat_ortho_projected(
+    a: &[u8],
+    basis: &[u64],
+    matrix: &mut [i64; 64],
+    answer: &mut [u64; 8],
+)
+    ensures { λ _. ⌜ FillsMatrix (projectedOf (now (a .entry)) (now (basis .entry))) (now (matrix .exit)) (now (answer .exit)) ⌝ }
+{
+    let p = mat_elem::mat_ortho_projected(a, basis);
+    *matrix = in_rows(p);
+    *answer = answer_of(p.refusal, 0, 0, 0);
 }

@@ -1,30 +1,40 @@
--- Eight entries filled from the front, one for each word of a basis.
+-- An array filled from the front with the entries of a list, one store a turn; what is past them stays.
 use mathlib.Core.Path.{_≡_, refl, sym, ap, _∙_}
 use mathlib.Core.List.{List, [], _∷_, _++_, map, append-assoc}
 use Prim.Native.Nat.{ℕ, suc, _+_, _-_, _≤_, _<_}
 use native.Mathlib.Omega.{arith}
 use native.Mathlib.Numerals.{add-one}
-use lib.ListN.{length, getD, take, set, replicate, length-map}
+use lib.ListN.{length, getD, take, set, replicate, length-map, List·getD-map}
 use lib.Seq.{take-suc, take-all, set-at, length-take-le}
 use Rattle.mat_elem.specs.Matrix.{upToEight}
 
-module _ {A : Type 0} (f : ℕ → A) (z : A) (basis : List ℕ) (few : length basis ≤ 8) where
-  -- the entries of the first j words
+module _ {A : Type 0} (w : List A) (z : A) (n : ℕ) where
+  -- the first j entries of w, in an array of n that was z all over
   abbrev pub Filled : ℕ → List A → Type 0
-  Filled j v = v ≡ map f (take j basis) ++ replicate (8 - j) z
+  Filled j v = v ≡ take j w ++ replicate (n - j) z
 
-  map-last : (xs : List ℕ) (x : ℕ) → map f (xs ++ (x ∷ [])) ≡ map f xs ++ (f x ∷ [])
-  map-last [] x = refl
-  map-last (y ∷ xs) x = ap (λ (l : List A). f y ∷ l) (map-last xs x)
+  module _ (few : length w ≤ n) (j : ℕ) (v : List A) (g : Filled j v) where
+    pub fills : (d e : A) → j < length w → e ≡ getD w j d → Filled (j + 1) (set v j e)
+    fills d e h q =
+        let k : n - j ≡ suc (n - (j + 1)) = omega arith in
+        let front : take (j + 1) w ≡ take j w ++ (getD w j d ∷ []) = ap (λ (i : ℕ). take i w) (add-one j) ∙ take-suc w j d h in
+        rw (g, q, k, front)
+        (set-at (take j w) z (replicate (n - (j + 1)) z) (getD w j d) j (length-take-le j w (omega arith))
+        ∙ sym (append-assoc (take j w) (getD w j d ∷ []) (replicate (n - (j + 1)) z)))
 
-  pub fills : (j : ℕ) (v : List A) (e : A) → j < length basis → Filled j v → e ≡ f (getD basis j 0) → Filled (j + 1) (set v j e)
-  fills j v e h g q =
-      let k : 8 - j ≡ suc (8 - (j + 1)) = omega arith in
-      let front : map f (take (j + 1) basis) ≡ map f (take j basis) ++ (f (getD basis j 0) ∷ []) =
-      ap (λ (n : ℕ). map f (take n basis)) (add-one j) ∙ ap (map f) (take-suc basis j 0 h) ∙ map-last (take j basis) (getD basis j 0) in
-      rw (g, q, k, front)
-      (set-at (map f (take j basis)) z (replicate (8 - (j + 1)) z) (f (getD basis j 0)) j (length-map (take j basis) f ∙ length-take-le j basis (omega arith))
-      ∙ sym (append-assoc (map f (take j basis)) (f (getD basis j 0) ∷ []) (replicate (8 - (j + 1)) z)))
+    pub filled : j ≤ length w → length w ≤ j → v ≡ w ++ replicate (n - length w) z
+    filled h k = let e : j ≡ length w = omega arith in g ∙ rw (e, take-all (length w) w (omega arith))
 
-  pub filled : (j : ℕ) (v : List A) → j ≤ length basis → length basis ≤ j → Filled j v → v ≡ upToEight f z basis
-  filled j v h k g = let e : j ≡ length basis = omega arith in g ∙ rw (e, take-all (length basis) basis (omega arith))
+-- the values of f for the words of a basis
+module _ {A : Type 0} (f : ℕ → A) (z : A) (basis : List ℕ) (few : length basis ≤ 8) (j : ℕ) (v : List A) (g : Filled (map f basis) z 8 j v) where
+  few-values : length (map f basis) ≤ 8
+  few-values = omega (arith, length-map basis f)
+
+  pub fills-word : (e : A) → j < length basis → e ≡ f (getD basis j 0) → Filled (map f basis) z 8 (j + 1) (set v j e)
+  fills-word e h q =
+      fills (map f basis) z 8 few-values j v g (f 0) e (omega (arith, length-map basis f)) (q ∙ sym (List·getD-map f basis j 0))
+
+  pub filled-words : j ≤ length basis → length basis ≤ j → v ≡ upToEight f z basis
+  filled-words h k =
+      filled (map f basis) z 8 few-values j v g (omega (arith, length-map basis f)) (omega (arith, length-map basis f))
+      ∙ ap (λ (i : ℕ). map f basis ++ replicate (8 - i) z) (length-map basis f)

@@ -4,4 +4,5 @@ pub mod Bases
 pub mod Filling
 pub mod Projecting
 pub mod MatrixTheorems
+pub mod Fitting
 pub mod Unique

@@ -1,10 +1,13 @@
 -- The projected matrix of a record on a basis of up to eight words: row the bra, column the ket.
+use mathlib.Core.Path.{_≡_}
 use mathlib.Core.Bool.{Bool, true, false, cond, _||_}
 use mathlib.Core.List.{List, [], _∷_, _++_, map}
-use Prim.Native.Nat.{ℕ, zero, suc, _-_}
+use Prim.Native.Nat.{ℕ, zero, suc, _-_, _<_}
 use lib.Dec.{eqb, leb}
 use lib.IntN.{ℤ, pos}
 use lib.ListN.{length, getD, take, replicate}
+use mir.Syntax.{w64}
+use mir.Val.{SFits}
 use Rattle.modes.specs.Answers.{refusal, none}
 use Rattle.modes.specs.declared.Refusal.{Refusal}
 use Rattle.modes.specs.declared.Term.{Term}
@@ -68,3 +71,12 @@ unfoldable pub projectedOf : List ℕ → List ℕ → Projected
 projectedOf a basis =
     let found : Projected = record { refusal = none; rows = matrixOf (termsOf a) basis } in
     cond (eqb ((projectedRefusal a basis) .number) 0) found (refusedMatrix (projectedRefusal a basis))
+
+-- what the type of a matrix says: eight rows of eight signed numbers of 64 bits
+pub record EightNumbers (r : Row) : Type 0 where
+  pub count : length (r .entries) ≡ 8
+  pub fits : (j : ℕ) → j < 8 → SFits w64 (getD (r .entries) j (pos 0))
+
+pub record EightRows (rows : List Row) : Type 0 where
+  pub count : length rows ≡ 8
+  pub each : (i : ℕ) → i < 8 → EightNumbers (getD rows i (record { entries = [] }))

@@ -1,17 +1,17 @@
 -- `mat_elem::project` meets its contract. The invariant: the rows of the first `i` bras are filled.
-use mathlib.Core.Path.{_≡_, refl}
-use mathlib.Core.List.{map, _++_}
+use mathlib.Core.Path.{refl}
+use mathlib.Core.List.{map}
 use Prim.Native.Nat.{_-_, _≤_}
-use lib.ListN.{length, take, replicate}
+use lib.ListN.{length}
 use Rattle.record.specs.Layout.{termsIn}
 use Rattle.mat_elem.specs.Matrix.{rowOf, zeroRow, matrixOf}
-use Rattle.mat_elem.proofs.Filling.{fills, filled}
+use Rattle.mat_elem.proofs.Filling.{Filled, fills-word, filled-words}
 use borrow.Author.Needs.{needs}
 use Rattle.mat_elem.proofs.project.Statement.{statement}
 use Rattle.mat_elem.proofs.project.Tie as tie
 
 abbrev Inv-loop : tie.InvT-loop
-Inv-loop a n basis rows₀ i₀ rows i = (i ≤ length basis) × (rows ≡ map (rowOf (termsIn a n) basis) (take i basis) ++ replicate (8 - i) zeroRow)
+Inv-loop a n basis rows₀ i₀ rows i = (i ≤ length basis) × Filled (map (rowOf (termsIn a n) basis) basis) zeroRow 8 i rows
 
 abbrev μ-loop : tie.MeasureT-loop
 μ-loop a n basis rows₀ i₀ rows i = length basis - i
@@ -44,14 +44,14 @@ loop-again : tie.Need-loop-again Inv-loop μ-loop
 loop-again c =
     let s = c .before .before .before .before .before .before in
     let l = c .before .before .before .loop in
-    (search needs, fills _ _ (s .args .basis .now) (s .pre .2) (l .i) (l .rows) _ (c .before .before .loop-test .taken) (l .inv .1) (c .row-of .ensures))
+    (search needs, fills-word _ _ (s .args .basis .now) (s .pre .2) (l .i) (l .rows) (l .inv .1) _ (c .before .before .loop-test .taken) (c .row-of .ensures))
 
 returns : tie.Need-returns Inv-loop μ-loop
 unfolding matrixOf
 returns c =
     let s = c .before .before .before .before in
     let l = c .before .loop in
-    (refl, filled _ _ (s .args .basis .now) (s .pre .2) (l .i) (l .rows) (l .inv .0) (c .loop-test .left) (l .inv .1))
+    (refl, filled-words _ _ (s .args .basis .now) (s .pre .2) (l .i) (l .rows) (l .inv .1) (l .inv .0) (c .loop-test .left))
 
 pub project-spec : {M : Type 1} → statement M
 project-spec =

@@ -3,20 +3,20 @@ use mir.Syntax.{w64}
 use mir.Val.{SFits}
 use mir.Facts.{toZ-ofZ}
 use Rattle.mat_elem.specs.Matrix.{rowOf}
-use mathlib.Core.Path.{_≡_, refl, ap, _∙_}
-use mathlib.Core.List.{List, map, _++_}
+use mathlib.Core.Path.{refl, ap, _∙_}
+use mathlib.Core.List.{List, map}
 use Prim.Native.Nat.{_-_, _≤_}
 use lib.IntN.{ℤ, pos}
-use lib.ListN.{length, take, replicate}
+use lib.ListN.{length}
 use Rattle.products.specs.Operators.{element}
 use Rattle.record.specs.Layout.{termsIn}
-use Rattle.mat_elem.proofs.Filling.{fills, filled}
+use Rattle.mat_elem.proofs.Filling.{Filled, fills-word, filled-words}
 use borrow.Author.Needs.{needs}
 use Rattle.mat_elem.proofs.row_of.Statement.{statement}
 use Rattle.mat_elem.proofs.row_of.Tie as tie
 
 abbrev Inv-loop : tie.InvT-loop
-Inv-loop a n basis bra entries₀ j₀ entries j = (j ≤ length basis) × (entries ≡ map (λ ket. element bra ket (termsIn a n)) (take j basis) ++ replicate (8 - j) (pos 0))
+Inv-loop a n basis bra entries₀ j₀ entries j = (j ≤ length basis) × Filled (map (λ ket. element bra ket (termsIn a n)) basis) (pos 0) 8 j entries
 
 abbrev μ-loop : tie.MeasureT-loop
 μ-loop a n basis bra entries₀ j₀ entries j = length basis - j
@@ -50,14 +50,14 @@ loop-again c =
     let s = c .before .before .before .before .before .before in
     let l = c .before .before .before .loop in
     let small : SFits w64 (c .sum-parts .result) = record { sfits = c .sum-parts .ok } in
-    (search needs, fills _ _ (s .args .basis .now) (s .pre .2) (l .j) (l .entries) _ (c .before .before .loop-test .taken) (l .inv .1) (toZ-ofZ small ∙ c .sum-parts .ensures))
+    (search needs, fills-word _ _ (s .args .basis .now) (s .pre .2) (l .j) (l .entries) (l .inv .1) _ (c .before .before .loop-test .taken) (toZ-ofZ small ∙ c .sum-parts .ensures))
 
 returns : tie.Need-returns Inv-loop μ-loop
 unfolding rowOf
 returns c =
     let s = c .before .before .before .before in
     let l = c .before .loop in
-    ap (λ (v : List ℤ). record { entries = v }) (filled _ _ (s .args .basis .now) (s .pre .2) (l .j) (l .entries) (l .inv .0) (c .loop-test .left) (l .inv .1))
+    ap (λ (v : List ℤ). record { entries = v }) (filled-words _ _ (s .args .basis .now) (s .pre .2) (l .j) (l .entries) (l .inv .1) (l .inv .0) (c .loop-test .left))
 
 pub row-of-spec : {M : Type 1} → statement M
 row-of-spec =
