@@ -1,20 +1,24 @@
 -- What the comparison says of two records that it accepts: equal exactly if all elements agree, and then the bytes do; otherwise the elements at the pair named differ.
 use mathlib.Core.Path.{_≡_, refl, sym, ap, _∙_, subst}
 use mathlib.Core.Bool.{Bool, true, false, cond}
-use mathlib.Core.List.{List}
+use mathlib.Core.List.{List, [], _∷_}
 use mathlib.Core.Logic.{_⊎_, inl, inr}
 use Prim.Native.Nat.{ℕ, _^_, _≤_, _<_}
 use native.Mathlib.Omega.{arith}
 use lib.Dec.{eqb}
-use borrow.Author.Tests.{eqb-true, eqb-false}
+use borrow.Author.Tests.{eq-eqb, eqb-true, eqb-false}
+use Rattle.modes.specs.Answers.{none}
+use Rattle.modes.specs.declared.Term.{Term}
 use Rattle.modes.specs.Words.{bit}
 use Rattle.modes.specs.Counts.{count}
 use Rattle.modes.proofs.Digits.{lt-or-ge}
 use Rattle.products.specs.Operators.{element}
 use Rattle.record.specs.Layout.{modesOf, termsOf}
+use Rattle.record.specs.Refusals.{refusalOf}
 use Rattle.record.specs.Coefficients.{coeffOf}
 use Rattle.record.specs.Canonical.{Canonical}
-use Rattle.record.proofs.Accepted.{accepted-canonical}
+use Rattle.record.proofs.Refusals.{or-second}
+use Rattle.record.proofs.Accepted.{accepted-canonical, accepted-none}
 use Rattle.record.proofs.Inverse.{Small, same-bytes}
 use Rattle.record.proofs.Coefficients.{same-terms}
 use Rattle.record.proofs.SameElements.{none-outside, same-coefficient}
@@ -24,6 +28,20 @@ use Rattle.compare.specs.Comparison.{differing, named, refusedComparison
 use Rattle.compare.specs.declared.Compared.{Compared}
 use Rattle.compare.proofs.Naming.{Lists, none-named, named-differs, none-fewer}
 use Rattle.compare.proofs.Differing.{Differ, same-or-not, lists-differing}
+
+-- two accepted records on one number of modes are not refused
+named-unrefused : (ts : List Term) → (named ts) .refusal ≡ none
+unfolding named
+named-unrefused [] = refl
+named-unrefused (t ∷ ts) = refl
+
+pub not-refused : (a b : List ℕ) (r : Compared) → r ≡ comparedOf a b → (refusalOf 1 a) .number ≡ 0 → (refusalOf 2 b) .number ≡ 0 → modesOf a ≡ modesOf b
+    → r .refusal ≡ none
+unfolding comparedOf pairRefusal
+not-refused a b r e x y m =
+    let pair : pairRefusal a b ≡ none =
+    rw (accepted-none 1 a x, accepted-none 2 b y, eq-eqb (modesOf a) (modesOf b) m) (or-second none _ refl ∙ or-second none _ refl) in
+    ap (λ (c : Compared). c .refusal) e ∙ rw pair (named-unrefused (differing (termsOf a) (termsOf b)))
 
 -- an answer that is no refusal
 record Answers (a b : List ℕ) (r : Compared) : Type 0 where
@@ -81,13 +99,13 @@ module _ (a b : List ℕ) (r : Compared) (e : r ≡ comparedOf a b) (ok : r .ref
   inside : (c k : ℕ) → Differ (termsOf a) (termsOf b) c k → (c < 2 ^ modesOf a) × (k < 2 ^ modesOf a)
   inside c k d = go (lt-or-ge c (2 ^ modesOf a)) (lt-or-ge k (2 ^ modesOf a))
     where
-      none : (c < 2 ^ modesOf a → k < 2 ^ modesOf a → ⊥) → ⊥
-      none n = d (none-outside (modesOf a) c k (termsOf a) (one .inside) n ∙ sym (none-outside (modesOf a) c k (termsOf b) (two .inside) n))
+      not-outside : (c < 2 ^ modesOf a → k < 2 ^ modesOf a → ⊥) → ⊥
+      not-outside n = d (none-outside (modesOf a) c k (termsOf a) (one .inside) n ∙ sym (none-outside (modesOf a) c k (termsOf b) (two .inside) n))
 
       go : (c < 2 ^ modesOf a) ⊎ (2 ^ modesOf a ≤ c) → (k < 2 ^ modesOf a) ⊎ (2 ^ modesOf a ≤ k) → (c < 2 ^ modesOf a) × (k < 2 ^ modesOf a)
       go (inl x) (inl y) = (x, y)
-      go (inl x) (inr y) = absurd (none (λ p q. omega arith))
-      go (inr x) y = absurd (none (λ p q. omega arith))
+      go (inl x) (inr y) = absurd (not-outside (λ p q. omega arith))
+      go (inr x) y = absurd (not-outside (λ p q. omega arith))
 
   module _ (h : r .equal ≡ false) where
     differ : Differ (termsOf a) (termsOf b) (r .bra) (r .ket)
