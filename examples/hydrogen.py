@@ -37,7 +37,7 @@ def word(*modes):
 
 
 def hamiltonian():
-    """(annihilation word, creation word, coefficient), ascending: sum of h a+p aq, and half the sum of (pq|rs) a+p a+r as aq."""
+    """The sum of h_pq a+p aq and half the sum of (pq|rs) a+p a+r as aq: ascending rows (ann, cre, coefficient)."""
     twice = {}
     for ((p, q), value), spin in itertools.product(CORE.items(), (0, 1)):
         add(twice, word(mode(q, spin)), word(mode(p, spin)), 2 * value)
@@ -55,7 +55,7 @@ def add(terms, ann, cre, value):
 
 
 def record(modes, terms):
-    """The bytes of a record: eight numbers of 4 bytes, then a column each of annihilations, creations and coefficients."""
+    """The bytes of a record: eight numbers of 4 bytes, then columns of annihilations, creations and coefficients."""
     n = len(terms)
     header = (1, modes, n, 32, 32 + 8 * n, 32 + 16 * n, 32 + 24 * n, 0)
     columns = (term[k] % 2**64 for k in range(3) for term in terms)
@@ -66,10 +66,10 @@ class Library:
     """The functions of include/fermion.h that are needed here, from the shared object of the proved library."""
 
     def __init__(self):
-        built = subprocess.run([os.path.join(ROOT, "tools", "shared_object.sh")], capture_output=True, text=True)
-        if built.returncode:
-            sys.exit(built.stdout + built.stderr)
-        self.lib = ctypes.CDLL(built.stdout.strip().splitlines()[-1].split(": ")[0])
+        path = os.path.join(ROOT, "target", "native", "libfermion.so")
+        if not os.path.exists(path):
+            subprocess.run([os.path.join(ROOT, "tools", "shared_object.sh"), path], check=True)
+        self.lib = ctypes.CDLL(path)
 
     def call(self, name, *args):
         """The answer's eight numbers. A refusal ends the program."""
@@ -85,7 +85,8 @@ class Library:
     def matrix(self, a, basis):
         entries = (ctypes.c_int64 * 64)()
         words = (ctypes.c_uint64 * len(basis))(*basis)
-        self.call("fermion_mat_ortho_projected", a, ctypes.c_size_t(len(a)), words, ctypes.c_size_t(len(basis)), entries)
+        lengths = [ctypes.c_size_t(len(x)) for x in (a, basis)]
+        self.call("fermion_mat_ortho_projected", a, lengths[0], words, lengths[1], entries)
         return [[entries[8 * i + j] for j in range(len(basis))] for i in range(len(basis))]
 
 

@@ -83,7 +83,7 @@ def check_large_elements(calls):
 def check_drawn_matrices(calls):
     """Bases of 0 to 8 words that the terms join."""
     rng = calls.rng
-    for i in range(2000):
+    for i in range(6600):
         m = rng.randint(1, 64)
         near = rng.sample(range(m), min(m, 4))
         rows = draws.rows(rng, m, rng.randint(0, 8), rng.choice(("few", "body")), near=near)
@@ -122,7 +122,7 @@ def check_bases(calls):
 def check_drawn_comparisons(calls):
     """Records and copies changed in some terms. Where they differ, so do the library's elements at the pair named."""
     rng = calls.rng
-    for i in range(2500):
+    for i in range(8300):
         m = rng.randint(1, 64)
         rows = draws.rows(rng, m, rng.randint(0, 12), rng.choice(("dense", "few", "body")))
         other = {row[:2]: row[2] for row in rows}
