@@ -1,2 +1,3 @@
 //! What the timing programs share.
+pub mod operators;
 pub mod timing;

@@ -7,65 +7,14 @@
 //! For each mode count and number of terms, two operators of two-body terms are drawn, half of the terms held by both.
 //! zixy adds f64 coefficients and makes its own set of terms; the library adds whole numbers, reads and checks two
 //! records and writes one.
+use programs::operators::{operator, record, zixy_terms, Draw, Operator};
 use programs::timing::{self, Symbol, Timing, ROUNDS};
-use std::collections::BTreeMap;
 use std::hint::black_box;
 use zixy::container::traits::proj::Borrow;
-use zixy::container::word_iters::terms::AsViewMut;
-use zixy::fermion::mode::Modes;
 use zixy::fermion::operator::normal::cmpnt_major::lincomb;
-use zixy::fermion::operator::normal::cmpnt_major::terms::Terms;
 
 type Add = unsafe extern "C" fn(*const u8, usize, *const u8, usize, *mut u8, usize, *mut u64);
 type Check = unsafe extern "C" fn(*const u8, usize, *mut u64);
-
-/// SplitMix64: seeded, the same on every machine.
-struct Draw(u64);
-
-impl Draw {
-    fn next(&mut self) -> u64 {
-        self.0 = self.0.wrapping_add(0x9e37_79b9_7f4a_7c15);
-        let z = (self.0 ^ (self.0 >> 30)).wrapping_mul(0xbf58_476d_1ce4_e5b9);
-        let z = (z ^ (z >> 27)).wrapping_mul(0x94d0_49bb_1331_11eb);
-        z ^ (z >> 31)
-    }
-
-    /// A word with two of m modes.
-    fn pair(&mut self, m: u64) -> u64 {
-        let p = self.next() % m;
-        let q = (p + 1 + self.next() % (m - 1)) % m;
-        1 << p | 1 << q
-    }
-}
-
-/// Terms by (annihilation, creation), with coefficients from 1 to 1,000.
-type Operator = BTreeMap<(u64, u64), i64>;
-
-fn operator(draw: &mut Draw, m: u64, n: usize, shared: &Operator) -> Operator {
-    let mut terms: Operator = shared.iter().take(n / 2).map(|(k, c)| (*k, *c)).collect();
-    while terms.len() < n {
-        terms.insert((draw.pair(m), draw.pair(m)), 1 + (draw.next() % 1000) as i64);
-    }
-    terms
-}
-
-fn record(m: u64, terms: &Operator) -> Vec<u8> {
-    let n = terms.len() as u32;
-    let header = [1, m as u32, n, 32, 32 + 8 * n, 32 + 16 * n, 32 + 24 * n, 0];
-    let mut out: Vec<u8> = header.iter().flat_map(|x| x.to_le_bytes()).collect();
-    out.extend(terms.keys().flat_map(|(ann, _)| ann.to_le_bytes()));
-    out.extend(terms.keys().flat_map(|(_, cre)| cre.to_le_bytes()));
-    out.extend(terms.values().flat_map(|c| c.to_le_bytes()));
-    out
-}
-
-fn zixy_terms(m: u64, terms: &Operator) -> Terms<f64> {
-    let mut out = Terms::<f64>::new(Modes::from_count(m as usize));
-    for ((ann, cre), c) in terms {
-        out.push_u64it([*cre, *ann].into_iter(), *c as f64);
-    }
-    out
-}
 
 fn main() {
     let file = std::env::args().nth(1).unwrap_or_else(|| timing::fail("bench_add", "bench_add FILE.so".into()));
