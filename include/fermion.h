@@ -65,6 +65,12 @@ void fermion_block(const uint8_t *a, size_t a_len, uint64_t ann, uint64_t answer
 
 /* [5] the exact element, signed (cast it to int64_t). 12: operand 3 for the bra, 4 for the ket, place 0. */
 void fermion_element(const uint8_t *a, size_t a_len, uint64_t bra, uint64_t ket, uint64_t answer[8]);
+/* matrix[8*i+j] is the element at bra basis[i], ket basis[j]; all others are 0, and all 64 on refusal. 12 and 14:
+ * operand 3. */
+void fermion_mat_ortho_projected(const uint8_t *a, size_t a_len, const uint64_t *basis, size_t basis_len,
+                                 int64_t matrix[64], uint64_t answer[8]);
+/* [5] 1 equal, 0 different; [6] the bra and [7] the ket named, 0 where equal */
+void fermion_compare(const uint8_t *a, size_t a_len, const uint8_t *b, size_t b_len, uint64_t answer[8]);
 
 /* Float elements: value[0] re, value[1] im (plus zero for a real, and both on refusal). Entry i of every list
  * belongs to term i; the lists have one length, 0 to 2,048. 1, 2 and 13: operand 1; 12: operand 3 for the bra, 4 for the

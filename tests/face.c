@@ -187,6 +187,65 @@ static struct tally check_element(void)
     return t;
 }
 
+/* a matrix between guards, full of garbage before the call */
+struct square {
+    int64_t before, entries[64], after;
+};
+
+static struct square dirty_square(void)
+{
+    struct square s;
+    s.before = 7, s.after = 9;
+    for (int i = 0; i < 64; i++)
+        s.entries[i] = (int64_t)next();
+    return s;
+}
+
+static struct tally check_matrix(void)
+{
+    struct tally t = {"fermion_mat_ortho_projected", 0, 0};
+    const uint64_t words[] = {1, 2, 3, 4, 1, 0, 0, 0, 0};
+    const struct {
+        size_t from, len;
+        uint64_t number, place;
+        int64_t diagonal[3];
+    } expected[] = {
+        {0, 0, 0, 0, {0, 0, 0}}, {0, 3, 0, 0, {1, -1, 0}}, {1, 2, 0, 0, {-1, 0, 0}}, {0, 9, 14, 0, {0, 0, 0}},
+        {2, 3, 12, 1, {0, 0, 0}}, {4, 3, 14, 2, {0, 0, 0}},
+    };
+    for (size_t i = 0; i < sizeof expected / sizeof expected[0]; i++) {
+        struct square got = dirty_square(), right = {7, {0}, 9};
+        struct guarded answer = dirty();
+        struct guarded told = answer_of(expected[i].number, expected[i].number ? 3 : 0, 0, 0, 0, 0, 0);
+        told.answer[2] = expected[i].place;
+        for (int j = 0; j < 3; j++)
+            right.entries[9 * j] = expected[i].diagonal[j];
+        fermion_mat_ortho_projected(example, 80, words + expected[i].from, expected[i].len, got.entries, answer.answer);
+        compare(&t, &got, &right, sizeof got);
+        same_answer(&t, answer, told);
+    }
+    return t;
+}
+
+static struct tally check_compare(void)
+{
+    struct tally t = {"fermion_compare", 0, 0};
+    const struct {
+        const uint8_t *b;
+        size_t len;
+        struct guarded answer;
+    } expected[] = {
+        {example, 80, answer_of(0, 0, 0, 0, 1, 0, 0)}, {none, 32, answer_of(0, 0, 0, 0, 0, 1, 1)},
+        {none, 31, answer_of(1, 2, 0, 0, 0, 0, 0)},    {other, 32, answer_of(6, 0, 0, 0, 0, 0, 0)},
+    };
+    for (size_t i = 0; i < sizeof expected / sizeof expected[0]; i++) {
+        struct guarded got = dirty();
+        fermion_compare(example, 80, expected[i].b, expected[i].len, got.answer);
+        same_answer(&t, got, expected[i].answer);
+    }
+    return t;
+}
+
 /* what one call that fills an output must leave: len bytes, then zeros as far as room, then garbage as it was */
 struct left {
     struct lent lent;
@@ -344,6 +403,8 @@ int main(void)
         check_element(),
         check_mat_elem("fermion_mat_elem_real", false),
         check_mat_elem("fermion_mat_elem_complex", true),
+        check_matrix(),
+        check_compare(),
     };
     int passed = 0, failed = 0;
     for (size_t i = 0; i < sizeof all / sizeof all[0]; i++) {

@@ -1,3 +1,4 @@
 pub mod Filling
+pub mod InRows
 pub mod Cases
 pub mod Unique

@@ -2,10 +2,12 @@
 use mathlib.Core.Path.{_≡_, sym, _∙_}
 use mathlib.Core.List.{List}
 use Prim.Native.Nat.{ℕ}
+use lib.IntN.{ℤ}
 use lib.Ieee.{Float}
 use Rattle.lent.specs.Outputs.{Output}
+use Rattle.mat_elem.specs.declared.Projected.{Projected}
 use Rattle.float_elem.specs.Answers.{Told}
-use Rattle.fermion.specs.Face.{Fills, FillsClean, FillsFloat}
+use Rattle.fermion.specs.Face.{Fills, FillsClean, FillsFloat, FillsMatrix}
 
 -- once for every call that fills no output: its promise names the eight numbers
 pub answer-one : {numbers answer answer′ : List ℕ} → answer ≡ numbers → answer′ ≡ numbers → answer ≡ answer′
@@ -24,3 +26,8 @@ fills-clean-one g h = let one = fills-one (g .fills) (h .fills) in (one .0, one 
 pub fills-float-one : {t : Told} {value value′ : List Float} {answer answer′ : List ℕ} → FillsFloat t value answer → FillsFloat t value′ answer′
     → (value ≡ value′) × (answer ≡ answer′)
 fills-float-one g h = (g .floats ∙ sym (h .floats), g .numbers ∙ sym (h .numbers))
+
+-- the call that fills a matrix
+pub matrix-one : {p : Projected} {matrix matrix′ : List ℤ} {answer answer′ : List ℕ} → FillsMatrix p matrix answer → FillsMatrix p matrix′ answer′
+    → (matrix ≡ matrix′) × (answer ≡ answer′)
+matrix-one g h = (g .entries ∙ sym (h .entries), g .numbers ∙ sym (h .numbers))

@@ -5,6 +5,7 @@ use mathlib.Core.List.{List, [], _∷_, _++_}
 use Prim.Native.Nat.{ℕ}
 use lib.ListN.{take}
 use lib.Ieee.{Float}
+use lib.IntN.{ℤ}
 use mir.Syntax.{w64}
 use mir.Val.{ofZ}
 use Rattle.modes.specs.Answers.{none}
@@ -21,6 +22,9 @@ use Rattle.record.specs.declared.Stretch.{Stretch}
 use Rattle.mat_elem.specs.declared.Exact.{Exact}
 use Rattle.float_elem.specs.Sums.{plusZero}
 use Rattle.float_elem.specs.Answers.{Told}
+use Rattle.mat_elem.specs.declared.Row.{Row}
+use Rattle.mat_elem.specs.declared.Projected.{Projected}
+use Rattle.compare.specs.declared.Compared.{Compared}
 
 -- a call that fills no output: its refusal, and its own three values
 abbrev pub answered : Refusal → ℕ → ℕ → ℕ → List ℕ
@@ -79,3 +83,17 @@ floatAnswer t = answered (t .refusal) 0 0 0
 pub record FillsFloat (t : Told) (value : List Float) (answer : List ℕ) : Type 0 where
   pub floats : value ≡ floatValues t
   pub numbers : answer ≡ floatAnswer t
+
+-- a comparison: 1 where equal, and the bra and the ket that are named
+abbrev pub comparedAnswer : Compared → List ℕ
+comparedAnswer c = answered (c .refusal) (cond (c .equal) 1 0) (c .bra) (c .ket)
+
+-- the rows of a matrix one after the other
+unfoldable pub inRows : List Row → List ℤ
+inRows [] = []
+inRows (r ∷ rows) = r .entries ++ inRows rows
+
+-- the matrix and the answer at the end are those of the value
+pub record FillsMatrix (p : Projected) (matrix : List ℤ) (answer : List ℕ) : Type 0 where
+  pub entries : matrix ≡ inRows (p .rows)
+  pub numbers : answer ≡ answered (p .refusal) 0 0 0

@@ -10,14 +10,19 @@ ghost use Rattle.multiply.specs.Answers.{productOf, commutatorOf, anticommutato
 ghost use Rattle.adjoint.specs.Adjoint.{adjointed};
 ghost use Rattle.adjoint.specs.Hermitian.{hermitianOf};
 ghost use Rattle.mat_elem.specs.Elements.{elementOf};
+ghost use Rattle.mat_elem.specs.Matrix.{EightRows, projectedOf};
 ghost use Rattle.float_elem.specs.Answers.{toldBy};
 ghost use Rattle.float_elem.specs.Elements.{floatElement};
+ghost use Rattle.compare.specs.Comparison.{comparedOf};
 ghost use Rattle.record.specs.Refusals.{checkedOf};
 ghost use Rattle.record.specs.Blocks.{blockOf};
 ghost use Rattle.record.specs.Figures.{conservesOf, maxNBodyOf, activeModesOf};
-ghost use Rattle.fermion.specs.Face.{values, applyAnswer, writtenAnswer, answered, checkedAnswer, testedAnswer, measuredAnswer, stretchAnswer, elementAnswer, Fills, FillsClean, floatValues, floatAnswer, FillsFloat};
+ghost use Rattle.fermion.specs.Face.{values, applyAnswer, writtenAnswer, answered, checkedAnswer, testedAnswer, measuredAnswer, stretchAnswer, elementAnswer, Fills, FillsClean};
+ghost use Rattle.fermion.specs.Face.{floatValues, floatAnswer, FillsFloat, comparedAnswer, inRows, FillsMatrix};
+use compare::Compared;
 use float_elem::FloatElement;
 use mat_elem::Exact;
+use mat_elem::Projected;
 use modes::Refusal;
 use modes::Written;
 use products::ApplyResult;
@@ -276,4 +281,49 @@ pub extern "C" fn fermion_mat_elem_complex(
     let e = float_elem::mat_elem_complex(m, cre, ann, re, im, bra, ket);
     *value = float_values(e);
     *answer = float_answer(e);
+}
+
+fn compared(c: Compared) -> [u64; 8]
+    ensures { λ a. ⌜ a ≡ comparedAnswer c ⌝ }
+{
+    answer_of(c.refusal, flag(c.equal), c.bra, c.ket)
+}
+
+#[no_mangle]
+pub extern "C" fn fermion_compare(a: &[u8], b: &[u8], answer: &mut [u64; 8])
+    ensures { λ _. ⌜ now (answer .exit) ≡ comparedAnswer (comparedOf (now (a .entry)) (now (b .entry))) ⌝ }
+{
+    *answer = compared(compare::compare(a, b));
+}
+
+// the eight rows one after the other
+fn in_rows(p: Projected) -> [i64; 64]
+    requires { ⌜ EightRows (p .rows) ⌝ }
+    ensures { λ m. ⌜ m ≡ inRows (p .rows) ⌝ }
+{
+    let rows = p.rows;
+    let mut m = [0i64; 64];
+    let mut k = 0;
+    while k < 64 {
+        let i = k / 8;
+        let j = k % 8;
+        let row = rows[i];
+        m[k] = row.entries[j];
+        k += 1;
+    }
+    m
+}
+
+#[no_mangle]
+pub extern "C" fn fermion_mat_ortho_projected(
+    a: &[u8],
+    basis: &[u64],
+    matrix: &mut [i64; 64],
+    answer: &mut [u64; 8],
+)
+    ensures { λ _. ⌜ FillsMatrix (projectedOf (now (a .entry)) (now (basis .entry))) (now (matrix .exit)) (now (answer .exit)) ⌝ }
+{
+    let p = mat_elem::mat_ortho_projected(a, basis);
+    *matrix = in_rows(p);
+    *answer = answer_of(p.refusal, 0, 0, 0);
 }

@@ -145,7 +145,7 @@ pub fn turned(sign: Sign, t: Term) -> Term
 }
 
 // The next term of two records, the second with its sign.
-fn next(sign: Sign, a: &[u8], na: usize, i: usize, b: &[u8], nb: usize, j: usize) -> Step
+pub fn next(sign: Sign, a: &[u8], na: usize, i: usize, b: &[u8], nb: usize, j: usize) -> Step
     requires { ⌜ Sound (now a) na × Sound (now b) nb ⌝ }
     requires { ⌜ (i ≤ na) × (j ≤ nb) × (i + j < na + nb) ⌝ }
     ensures { λ r. ⌜ Pulled (sign .0) (now (a .entry)) na i (now (b .entry)) nb j r ⌝ }

@@ -164,7 +164,7 @@ module _ (C A : ℕ) (hA : A < 2 ^ 64) where
           ∙ ap (λ (x : ℤ). element C A (fewer (count 64 (bit A)) ts) +ℤ x) (sym (signed-add own (coeffIn C A t) (coeffOf C A ts)))
 
   -- two operators that agree on the terms with fewer annihilations, and have one element here, have one coefficient here
-  pub same-here : (ts us : List Term) → Every Wide ts → Every Wide us → fewer (count 64 (bit A)) ts ≡ fewer (count 64 (bit A)) us → element C A ts ≡ element C A us
+  same-here : (ts us : List Term) → Every Wide ts → Every Wide us → fewer (count 64 (bit A)) ts ≡ fewer (count 64 (bit A)) us → element C A ts ≡ element C A us
       → coeffOf C A ts ≡ coeffOf C A us
   same-here ts us ht hu f e =
       unsign own (coeffOf C A ts) (coeffOf C A us)
@@ -227,7 +227,7 @@ fewer-all (t ∷ ts) = rw (lt-ltb (annihilations t) 65 (suc-le-suc (count-le 64 
 -- ---- canonical forms on m modes
 
 -- words outside m modes are no term's
-none-outside : (m c a : ℕ) (ts : List Term) → Every (Inside m) ts → (c < 2 ^ m → a < 2 ^ m → ⊥) → coeffOf c a ts ≡ pos 0
+pub none-outside : (m c a : ℕ) (ts : List Term) → Every (Inside m) ts → (c < 2 ^ m → a < 2 ^ m → ⊥) → coeffOf c a ts ≡ pos 0
 unfolding coeffOf
 none-outside m c a [] none n = refl
 none-outside m c a (t ∷ ts) (more h hs) n = go (eqb (t .ann) a && eqb (t .cre) c) refl (none-outside m c a ts hs n)
@@ -245,7 +245,7 @@ inside-wide m (t ∷ ts) h (more i is) =
 
 module _ (m : ℕ) (ts us : List Term) (kt : Canonical m ts) (ku : Canonical m us) where
   -- one coefficient at all words with fewer than n annihilations: the same terms with fewer than n
-  pub fewer-same : (n : ℕ) → ((c a : ℕ) → c < 2 ^ m → a < 2 ^ m → count 64 (bit a) < n → coeffOf c a ts ≡ coeffOf c a us) → fewer n ts ≡ fewer n us
+  fewer-same : (n : ℕ) → ((c a : ℕ) → c < 2 ^ m → a < 2 ^ m → count 64 (bit a) < n → coeffOf c a ts ≡ coeffOf c a us) → fewer n ts ≡ fewer n us
   fewer-same n e =
       same-terms (fewer n ts) (fewer n us) (fewer-ascending n ts (kt .ascending)) (fewer-ascending n us (ku .ascending))
       (every-fewer Nonzero n ts (kt .nonzero)) (every-fewer Nonzero n us (ku .nonzero))
@@ -264,11 +264,17 @@ module _ (m : ℕ) (ts us : List Term) (kt : Canonical m ts) (ku : Canonical m u
       at c a true q = rw q (words c a (ltb-true (count 64 (bit a)) n q) (lt-or-ge c (2 ^ m)) (lt-or-ge a (2 ^ m)))
       at c a false q = rw q
 
+  -- two that agree at all words with fewer annihilations, and have one element here, have one coefficient here
+  pub same-coefficient : (c a : ℕ) → a < 2 ^ m
+      → ((c′ a′ : ℕ) → c′ < 2 ^ m → a′ < 2 ^ m → count 64 (bit a′) < count 64 (bit a) → coeffOf c′ a′ ts ≡ coeffOf c′ a′ us)
+      → element c a ts ≡ element c a us → coeffOf c a ts ≡ coeffOf c a us
+  same-coefficient c a ha below e =
+      same-here c a (lt-of-lt-of-le ha (pow-mono (kt .most))) ts us (inside-wide m ts (kt .most) (kt .inside)) (inside-wide m us (kt .most) (ku .inside))
+      (fewer-same (count 64 (bit a)) below) e
+
   pub same-elements : ((bra ket : ℕ) → bra < 2 ^ m → ket < 2 ^ m → element bra ket ts ≡ element bra ket us) → ts ≡ us
   same-elements e = sym (fewer-all ts) ∙ fewer-same 65 (λ c a hc ha k. up-to 65 c a hc ha k) ∙ fewer-all us
     where
       up-to : (n c a : ℕ) → c < 2 ^ m → a < 2 ^ m → count 64 (bit a) < n → coeffOf c a ts ≡ coeffOf c a us
       up-to zero c a hc ha k = absurd (not-suc-le-zero k)
-      up-to (suc n) c a hc ha k =
-          same-here c a (lt-of-lt-of-le ha (pow-mono (kt .most))) ts us (inside-wide m ts (kt .most) (kt .inside)) (inside-wide m us (kt .most) (ku .inside))
-          (fewer-same (count 64 (bit a)) (λ c′ a′ hc′ ha′ k′. up-to n c′ a′ hc′ ha′ (omega arith))) (e c a hc ha)
+      up-to (suc n) c a hc ha k = same-coefficient c a ha (λ c′ a′ hc′ ha′ k′. up-to n c′ a′ hc′ ha′ (omega arith)) (e c a hc ha)

@@ -5,6 +5,8 @@ use mathlib.Core.List.{List, _∷_}
 use Prim.Native.Nat.{ℕ, _+_, _^_, _≤_}
 use lib.IntN.{natAbs}
 use lib.ListN.{drop}
+use Rattle.modes.specs.Words.{bit}
+use Rattle.modes.specs.Counts.{count}
 use Rattle.modes.specs.declared.Term.{Term}
 use Rattle.lent.specs.Bytes.{put}
 use Rattle.record.specs.Terms.{before}
@@ -50,6 +52,9 @@ one-stretch l a r s = one
 
 pub one-block : (l : List ℕ) (a : ℕ) (r s : List ℕ) → r ≡ bytesIn (blockOf l a) l → s ≡ bytesIn (blockOf l a) l → r ≡ s
 one-block l a r s = one
+
+pub one-count : (w r s : ℕ) → (r ≡ count 64 (bit w)) × (r ≤ 64) → (s ≡ count 64 (bit w)) × (s ≤ 64) → r ≡ s
+one-count w r s p q = one (p .0) (q .0)
 
 pub one-rank : (t : Term) (r s : ℕ) → r ≡ rankOf t → s ≡ rankOf t → r ≡ s
 one-rank t r s = one

@@ -343,7 +343,7 @@ pub fn block(s: &[u8], ann: u64) -> &[u8]
 }
 
 // How many modes the word holds.
-fn modes_in(word: u64) -> u64
+pub fn modes_in(word: u64) -> u64
     ensures { λ r. ⌜ (r ≡ count 64 (bit word)) × (r ≤ 64) ⌝ }
 {
     u64::count_ones(word) as u64

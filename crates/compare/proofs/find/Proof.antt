@@ -1,0 +1,67 @@
+-- `compare::find` meets its contract. The invariant: what is found, with what is left, names what the whole names.
+use mathlib.Core.Path.{refl}
+use mathlib.Core.Bool.{true}
+use Prim.Native.Nat.{_+_, _-_, _≤_}
+use native.Mathlib.Omega.{arith}
+use Rattle.lincomb.specs.Merging.{onward}
+use Rattle.lincomb.proofs.Merging.{spent}
+use Rattle.compare.proofs.Finding.{Finding, finding-goes, finding-ends-some, finding-ends-none}
+use borrow.Author.Needs.{needs}
+use Rattle.compare.proofs.find.Statement.{statement}
+use Rattle.compare.proofs.find.Tie as tie
+
+abbrev Inv-loop : tie.InvT-loop
+Inv-loop a na b nb f₀ i₀ j₀ f i j = (i ≤ na) × (j ≤ nb) × Finding (onward true a na b nb 0 0) (onward true a na b nb i j) f
+
+abbrev μ-loop : tie.MeasureT-loop
+μ-loop a na b nb f₀ i₀ j₀ f i j = na + nb - (i + j)
+
+loop-holds : tie.Need-loop-holds Inv-loop μ-loop
+loop-holds c = (search needs, search needs, refl)
+
+add-loop : tie.Need-add-loop Inv-loop μ-loop
+add-loop c = search needs
+
+add-loop-2 : tie.Need-add-loop-2 Inv-loop μ-loop
+add-loop-2 c = search needs
+
+next-requires : tie.Need-next-requires Inv-loop μ-loop
+next-requires c κs = (c .before .before .before .before .pre, search needs)
+
+with-term-requires : tie.Need-with-term-requires Inv-loop μ-loop
+with-term-requires c κs = search needs
+
+loop-less : tie.Need-loop-less Inv-loop μ-loop
+loop-less c = search needs
+
+loop-again : tie.Need-loop-again Inv-loop μ-loop
+loop-again c =
+    let s = c .before .before .next .ensures in
+    let v = c .before .before .before .before .loop .inv in
+    (s .left-in, s .right-in, finding-goes _ _ _ _ _ _ (v .2) (s .front) (c .with-term .ensures))
+
+returns : tie.Need-returns Inv-loop μ-loop
+returns c =
+    let v = c .before .before .before .loop .inv in
+    finding-ends-some _ _ _ (v .2) (spent true _ _ _ _ _ _ (v .0) (v .1) (omega arith)) (c .if1 .taken)
+
+returns-2 : tie.Need-returns-2 Inv-loop μ-loop
+returns-2 c =
+    let v = c .before .before .before .loop .inv in
+    finding-ends-none _ _ _ (v .2) (spent true _ _ _ _ _ _ (v .0) (v .1) (omega arith)) (c .if1 .left)
+
+pub find-spec : {M : Type 1} → statement M
+find-spec =
+    tie.close
+    (tie.spec
+    Inv-loop
+    μ-loop
+    loop-holds
+    add-loop
+    add-loop-2
+    next-requires
+    with-term-requires
+    loop-less
+    loop-again
+    returns
+    returns-2)

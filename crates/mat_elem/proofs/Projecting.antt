@@ -1,0 +1,85 @@
+-- The ways in which `mat_ortho_projected` answers: refused with the record or with the basis, or filled.
+use mathlib.Core.Path.{_≡_, refl, sym, ap, _∙_, subst}
+use mathlib.Core.Bool.{Bool, true, false, cond}
+use mathlib.Core.List.{List}
+use Prim.Native.Nat.{ℕ, _+_, _*_, _^_, _≤_, _<_}
+use native.Mathlib.Omega.{arith}
+use lib.Dec.{eqb, leb}
+use lib.ListN.{length}
+use borrow.Author.Tests.{eq-eqb, ne-eqb, le-leb, lt-leb, leb-true}
+use Rattle.modes.specs.Answers.{refusal, none}
+use Rattle.modes.specs.declared.Refusal.{Refusal}
+use Rattle.modes.specs.declared.Term.{Term}
+use Rattle.record.specs.Terms.{weight}
+use Rattle.record.specs.Layout.{modesOf, termsIn, termsOf}
+use Rattle.record.specs.Refusals.{orElse, refusalOf, checkedOf}
+use Rattle.record.specs.declared.Checked.{Checked}
+use Rattle.record.proofs.Refusals.{or-first, or-second}
+use Rattle.record.proofs.Accepted.{neither, Accepted, accepted, readable, refused}
+use Rattle.mat_elem.specs.Matrix.{firstRefusal, outsideAt, repeatAt, basisRefusal, matrixOf, refusedMatrix, projectedRefusal, projectedOf}
+use Rattle.mat_elem.specs.declared.Projected.{Projected}
+
+-- ---- the basis
+
+module _ (m : ℕ) (basis : List ℕ) where
+  pub basis-long : 8 < length basis → refusal 14 3 0 ≡ basisRefusal m basis
+  unfolding basisRefusal
+  basis-long h = sym (rw (lt-leb _ _ h) (or-first (refusal 14 3 0) _ (λ q. omega arith)))
+
+  module _ (h : length basis ≤ 8) where
+    after-length : basisRefusal m basis ≡ orElse (firstRefusal (outsideAt m basis) 0 (length basis)) (firstRefusal (repeatAt basis) 0 (length basis))
+    unfolding basisRefusal
+    after-length = rw (le-leb _ _ h) (or-second none _ refl)
+
+    pub basis-outside : (r : Refusal) → r ≡ firstRefusal (outsideAt m basis) 0 (length basis) → (r .number ≡ 0 → ⊥) → r ≡ basisRefusal m basis
+    basis-outside r e n = sym (after-length ∙ rw (← e) (or-first r _ n))
+
+    pub basis-repeats : (r q : Refusal) → r ≡ firstRefusal (outsideAt m basis) 0 (length basis) → r .number ≡ 0 → q ≡ firstRefusal (repeatAt basis) 0 (length basis)
+        → q ≡ basisRefusal m basis
+    basis-repeats r q e z f = sym (after-length ∙ rw (← e, ← f) (or-second r q z))
+
+  -- a basis that is not refused is short
+  pub basis-short : (basisRefusal m basis) .number ≡ 0 → length basis ≤ 8
+  unfolding basisRefusal
+  basis-short z = go (leb (length basis) 8) refl (neither _ _ z .0)
+    where
+      go : (b : Bool) → leb (length basis) 8 ≡ b → (cond b none (refusal 14 3 0)) .number ≡ 0 → length basis ≤ 8
+      go true q e = leb-true _ _ q
+      go false q e = absurd (omega arith)
+
+-- ---- the call
+
+module _ (a basis : List ℕ) where
+  turned-down : (r : Refusal) → projectedRefusal a basis ≡ r → (r .number ≡ 0 → ⊥) → refusedMatrix r ≡ projectedOf a basis
+  unfolding projectedOf
+  turned-down r e n = rw (e, ne-eqb (r .number) 0 n)
+
+  module _ (c : Checked) (e : c ≡ checkedOf 1 a) where
+    pub operator-refused : (c .refusal .number ≡ 0 → ⊥) → refusedMatrix (c .refusal) ≡ projectedOf a basis
+    unfolding projectedRefusal
+    operator-refused n =
+        let q : c .refusal ≡ refusalOf 1 a = ap (λ (d : Checked). d .refusal) (refused 1 a c e n) in
+        turned-down (c .refusal) (or-first (refusalOf 1 a) _ (subst (λ (r : Refusal). r .number ≡ 0 → ⊥) q n) ∙ sym q) n
+
+    module _ (z : c .refusal .number ≡ 0) (r : Refusal) (f : r ≡ basisRefusal (c .modes) basis) where
+      ok : Accepted 1 a c
+      ok = accepted 1 a c e z
+
+      of-basis : projectedRefusal a basis ≡ r
+      unfolding projectedRefusal
+      of-basis = rw (ok .none) (or-second none _ refl ∙ sym (f ∙ ap (λ (d : Checked). basisRefusal (d .modes) basis) (ok .is)))
+
+      pub basis-refused : (r .number ≡ 0 → ⊥) → refusedMatrix r ≡ projectedOf a basis
+      basis-refused n = turned-down r of-basis n
+
+      module _ (y : r .number ≡ 0) where
+        pub to-project : (32 + 24 * c .terms ≤ length a) × (weight (termsIn a (c .terms)) ≤ 2 ^ 60) × (length basis ≤ 8)
+        to-project =
+            (readable 1 a c ok .0, rw (ok .terms) (ok .canonical .light), basis-short (c .modes) basis (ap (λ (x : Refusal). x .number) (sym f) ∙ y))
+
+        pub projected : (p : Projected) → (p .refusal ≡ none) × (p .rows ≡ matrixOf (termsIn a (c .terms)) basis) → p ≡ projectedOf a basis
+        unfolding projectedOf
+        projected p g =
+            let n : (projectedRefusal a basis) .number ≡ 0 = ap (λ (x : Refusal). x .number) of-basis ∙ y in
+            let rows : p .rows ≡ matrixOf (termsOf a) basis = g .1 ∙ ap (λ (ts : List Term). matrixOf ts basis) (ok .terms) in
+            rw (eq-eqb _ _ n) (λ i. record { refusal = g .0 i; rows = rows i })
