@@ -327,6 +327,74 @@ static struct tally check_adjoint(void)
     return t;
 }
 
+/* the record of n terms on two modes, each an annihilation word, a creation word and a coefficient */
+static size_t record_of(uint8_t *to, size_t n, const int8_t terms[][3])
+{
+    const size_t header[8] = {1, 2, n, 32, 32 + 8 * n, 32 + 16 * n, 32 + 24 * n, 0};
+    memset(to, 0, 32 + 24 * n);
+    for (int i = 0; i < 8; i++)
+        to[4 * i] = (uint8_t)header[i];
+    for (size_t column = 0; column < 3; column++)
+        for (size_t i = 0; i < n; i++) {
+            uint8_t *entry = to + 32 + 8 * (n * column + i);
+            memset(entry, terms[i][column] < 0 ? 255 : 0, 8); /* the sign of a coefficient fills its entry */
+            entry[0] = (uint8_t)terms[i][column];
+        }
+    return 32 + 24 * n;
+}
+
+typedef void product_of(const uint8_t *a, size_t a_len, const uint8_t *b, size_t b_len, uint8_t *work, size_t work_len,
+                        uint8_t *out, size_t out_len, uint64_t answer[8]);
+
+/* {0|1} and {1|0}: work and output exactly right and to spare, then 7, 11, 1 of each record and 6 */
+static struct tally check_product(const char *name, product_of *f, uint64_t branches, size_t n, const int8_t terms[][3])
+{
+    struct tally t = {name, 0, 0};
+    static const int8_t hop[2][1][3] = {{{2, 1, 1}}, {{1, 2, 1}}};
+    uint8_t a[56], b[56], right[128];
+    size_t len = record_of(right, n, terms), rows = 24 * branches;
+    record_of(a, 1, hop[0]);
+    record_of(b, 1, hop[1]);
+    const struct {
+        const uint8_t *b;
+        size_t a_len, b_len, work, room;
+        struct guarded answer;
+    } calls[] = {
+        {b, 56, 56, rows, len, answer_of(0, 0, len, branches, 0, 0, 0)}, {b, 56, 56, 128, 128, answer_of(0, 0, len, branches, 0, 0, 0)},
+        {b, 56, 56, rows - 1, len, answer_of(7, 0, 0, 0, 0, 0, 0)},      {b, 56, 56, rows, len - 1, answer_of(11, 0, 0, 0, 0, 0, 0)},
+        {b, 55, 56, rows, len, answer_of(1, 1, 0, 0, 0, 0, 0)},          {b, 56, 55, rows, len, answer_of(1, 2, 0, 0, 0, 0, 0)},
+        {other, 56, 32, rows, len, answer_of(6, 0, 0, 0, 0, 0, 0)},
+    };
+    for (size_t i = 0; i < sizeof calls / sizeof calls[0]; i++) {
+        struct left got = before_call(), work = before_call(), expected = expected_left(got, calls[i].room, right, calls[i].answer);
+        struct lent clean = work.lent;
+        memset(clean.out, 0, calls[i].work);
+        f(a, calls[i].a_len, calls[i].b, calls[i].b_len, work.lent.out, calls[i].work, got.lent.out, calls[i].room, got.answer.answer);
+        compare(&t, &got, &expected, sizeof got);
+        compare(&t, &work.lent, &clean, sizeof clean);
+    }
+    return t;
+}
+
+/* {0|1} times {1|0} is {0|0} + {0,1|0,1}, the other way round {1|1} + {0,1|0,1} */
+static struct tally check_mul(void)
+{
+    static const int8_t terms[][3] = {{1, 1, 1}, {3, 3, 1}};
+    return check_product("fermion_mul", fermion_mul, 2, 2, terms);
+}
+
+static struct tally check_commutator(void)
+{
+    static const int8_t terms[][3] = {{1, 1, 1}, {2, 2, -1}};
+    return check_product("fermion_commutator", fermion_commutator, 4, 2, terms);
+}
+
+static struct tally check_anticommutator(void)
+{
+    static const int8_t terms[][3] = {{1, 1, 1}, {2, 2, 1}, {3, 3, 2}};
+    return check_product("fermion_anticommutator", fermion_anticommutator, 4, 3, terms);
+}
+
 /* {|0} times {0|} is {|} - {0|0}, the lower rank first; a byte less is refused with 7; {|0} times {|0} is nothing */
 static struct tally check_mul_cmpnts(void)
 {
@@ -394,6 +462,9 @@ int main(void)
         check_test("fermion_check", fermion_check, 2, 2, 2),
         check_add(),
         check_sums("fermion_sub", fermion_sub, none, 32),
+        check_mul(),
+        check_commutator(),
+        check_anticommutator(),
         check_adjoint(),
         check_test("fermion_is_hermitian", fermion_is_hermitian, 1, 0, 0),
         check_test("fermion_conserves_particle_number", fermion_conserves_particle_number, 1, 0, 0),

@@ -1,67 +1,122 @@
-//! Times the commutator of two operators: zixy's `commutator` and, in the same process, a library's `fermion_commutator`.
+//! Times products of two operators: zixy's `commutator` and `mul` and, in the same process, a library's.
 //!
 //! ```text
 //! bench_commutator FILE.so
 //! ```
 //!
-//! For each mode count and number of terms, two operators of random two-body terms are drawn. zixy multiplies f64
-//! coefficients into a set of terms of its own; the library reads and checks two records, works in lent memory that it
-//! wipes, and writes one record. A call that the library refuses is told apart and gives no ratio.
+//! First commutators of random two-body terms. Then how cost grows with rows: products of the sums of {w|w} over the first
+//! words w, which have as many rows as pairs and as many result terms as words; and {|0..b-1} times {0..b-1|}, whose 2^b rows
+//! are all different. zixy multiplies f64 coefficients into a set of terms of its own; the library reads and checks two
+//! records, works in lent memory that it wipes, and writes one record. A call that it refuses gives no ratio.
 use programs::draw::Draw;
 use programs::operators::{operator, record, zixy_terms, Operator};
-use programs::timing::{self, Symbol, Timing, ROUNDS};
+use programs::timing::{self, Symbol, Timing};
+use std::ffi::CStr;
 use std::hint::black_box;
 use zixy::container::traits::proj::Borrow;
 use zixy::fermion::operator::normal::cmpnt_major::lincomb;
 
-type Commutator = unsafe extern "C" fn(*const u8, usize, *const u8, usize, *mut u8, usize, *mut u8, usize, *mut u64);
+type Call = unsafe extern "C" fn(*const u8, usize, *const u8, usize, *mut u8, usize, *mut u8, usize, *mut u64);
+
+/// A function of the library on two records, in lent memory.
+struct Library {
+    call: Call,
+    work: Vec<u8>,
+    out: Vec<u8>,
+}
+
+impl Library {
+    fn new(file: &str, name: &CStr, rows: usize) -> Library {
+        // SAFETY: the functions named here have this type in the header.
+        let call = unsafe { std::mem::transmute::<Symbol, Call>(timing::load("bench_commutator", file, name)) };
+        Library { call, work: vec![0; 24 * rows], out: vec![0; 49_184] }
+    }
+
+    fn call(&mut self, a: &[u8], b: &[u8]) -> [u64; 8] {
+        let mut answer = [0; 8];
+        let (work, out) = (&mut self.work, &mut self.out);
+        // SAFETY: every slice is passed with its length, and the answer has eight entries.
+        unsafe {
+            (self.call)(
+                a.as_ptr(),
+                a.len(),
+                b.as_ptr(),
+                b.len(),
+                work.as_mut_ptr(),
+                work.len(),
+                out.as_mut_ptr(),
+                out.len(),
+                answer.as_mut_ptr(),
+            );
+        }
+        black_box(&self.out);
+        answer
+    }
+}
+
+/// Both sides on two operators, by turns: the library's answer, and the microseconds of each.
+fn measure(m: u64, a: &Operator, b: &Operator, commutator: bool, library: &mut Library, rounds: usize) -> ([u64; 8], f64, f64) {
+    let (left, right) = (record(m, a), record(m, b));
+    let (zixy_left, zixy_right) = (zixy_terms(m, a, |c| c), zixy_terms(m, b, |c| c));
+    let (mut zixy, mut own, mut answer) = (Timing::default(), Timing::default(), [0; 8]);
+    for _ in 0..rounds {
+        zixy.turn(|| {
+            let (a, b) = (&zixy_left.borrow(), &zixy_right.borrow());
+            let product = if commutator { lincomb::commutator(a, b) } else { lincomb::mul(a, b) };
+            black_box(product.is_ok());
+        });
+        own.turn(|| answer = library.call(&left, &right));
+    }
+    (answer, zixy.nanoseconds() / 1000.0, own.nanoseconds() / 1000.0)
+}
+
+fn ratio(answer: &[u64; 8], zixy: f64, own: f64) -> String {
+    match answer[0] {
+        0 => format!("{:.1}", zixy / own),
+        number => format!("refused {number}"),
+    }
+}
+
+fn commutators(file: &str) {
+    println!("commutators of two-body terms");
+    println!("{:>6}{:>7}{:>8}{:>10}{:>12}{:>12}{:>12}", "modes", "terms", "result", "branches", "zixy us", "library us", "zixy / it");
+    for (m, n) in [16, 32, 64].into_iter().flat_map(|m| [32, 64, 90].map(|n| (m, n))) {
+        let mut draw = Draw(m * 100_000 + n as u64);
+        let [a, b] = [(); 2].map(|()| operator(&mut draw, m, n, &Operator::new()));
+        // work for three times the pairs of both orders
+        let mut library = Library::new(file, c"fermion_commutator", 3 * n * n);
+        let (answer, zixy, own) = measure(m, &a, &b, true, &mut library, timing::ROUNDS);
+        let terms = answer[3].saturating_sub(32) / 24;
+        println!("{m:>6}{n:>7}{terms:>8}{:>10}{zixy:>12.1}{own:>12.1}{:>12}", answer[4], ratio(&answer, zixy, own));
+    }
+}
+
+fn growth(file: &str) {
+    println!("products of sums of {{w|w}} on 10 modes");
+    println!("{:>7}{:>10}{:>8}{:>14}{:>16}{:>12}", "terms", "rows", "result", "zixy ns/row", "library ns/row", "zixy / it");
+    for n in [32u64, 100, 316, 1_000] {
+        let a: Operator = (0..n).map(|w| ((w, w), 1 + (w % 7) as i64)).collect();
+        let mut library = Library::new(file, c"fermion_mul", (n * n) as usize);
+        let (answer, zixy, own) = measure(10, &a, &a, false, &mut library, if n > 100 { 5 } else { 21 });
+        let row = |us: f64| 1000.0 * us / answer[4] as f64;
+        println!("{n:>7}{:>10}{:>8}{:>14.1}{:>16.1}{:>12}", answer[4], (answer[3] - 32) / 24, row(zixy), row(own), ratio(&answer, zixy, own));
+    }
+    println!("{{|0..b-1}} times {{0..b-1|}}, the library alone; from 2,049 rows on it refuses the result with 10");
+    println!("{:>4}{:>10}{:>16}{:>12}", "b", "rows", "library ns/row", "refusal");
+    for b in [8u32, 10, 12, 14, 16, 18, 20] {
+        let word = (1u64 << b) - 1;
+        let (a, c) = (record(20, &Operator::from([((word, 0), 1)])), record(20, &Operator::from([((0, word), 1)])));
+        let mut library = Library::new(file, c"fermion_mul", 1 << b);
+        let (mut own, mut answer) = (Timing::default(), [0; 8]);
+        for _ in 0..11 {
+            own.turn(|| answer = library.call(&a, &c));
+        }
+        println!("{b:>4}{:>10}{:>16.1}{:>12}", 1 << b, own.nanoseconds() / (1u64 << b) as f64, answer[0]);
+    }
+}
 
 fn main() {
     let file = std::env::args().nth(1).unwrap_or_else(|| timing::fail("bench_commutator", "bench_commutator FILE.so".into()));
-    // SAFETY: the symbol has the type that the header declares.
-    let commutator = unsafe { std::mem::transmute::<Symbol, Commutator>(timing::load("bench_commutator", &file, c"fermion_commutator")) };
-    println!("{:>6}{:>7}{:>8}{:>10}{:>12}{:>14}{:>9}", "modes", "terms", "result", "branches", "zixy", "library", "zixy /");
-    println!("{:>6}{:>7}{:>8}{:>10}{:>12}{:>14}{:>9}", "", "each", "terms", "", "us", "us", "library");
-    for m in [16, 32, 64] {
-        for n in [32, 64, 90] {
-            let mut draw = Draw(m * 100_000 + n as u64);
-            let a = operator(&mut draw, m, n, &Operator::new());
-            let b = operator(&mut draw, m, n, &Operator::new());
-            let (left, right) = (record(m, &a), record(m, &b));
-            let (zixy_left, zixy_right) = (zixy_terms(m, &a, |c| c), zixy_terms(m, &b, |c| c));
-            let mut work = vec![0u8; 24 * 32_768];
-            let mut out = vec![0u8; 49_184];
-            let mut answer = [0u64; 8];
-            let (mut zixy, mut library) = (Timing::default(), Timing::default());
-            for _ in 0..ROUNDS {
-                zixy.turn(|| {
-                    black_box(lincomb::commutator(black_box(&zixy_left.borrow()), black_box(&zixy_right.borrow())).is_ok());
-                });
-                library.turn(|| {
-                    // SAFETY: every slice is passed with its length, and the answer has eight entries.
-                    unsafe {
-                        commutator(
-                            left.as_ptr(),
-                            left.len(),
-                            right.as_ptr(),
-                            right.len(),
-                            work.as_mut_ptr(),
-                            work.len(),
-                            out.as_mut_ptr(),
-                            out.len(),
-                            answer.as_mut_ptr(),
-                        );
-                    }
-                    black_box(&out);
-                });
-            }
-            let us = |t: &Timing| t.nanoseconds() / 1000.0;
-            let ratio = match answer[0] {
-                0 => format!("{:.1}", us(&zixy) / us(&library)),
-                number => format!("refused {number}"),
-            };
-            let terms = answer[3].saturating_sub(32) / 24;
-            println!("{m:>6}{n:>7}{terms:>8}{:>10}{:>12.1}{:>14.1}{ratio:>9}", answer[4], us(&zixy), us(&library));
-        }
-    }
+    commutators(&file);
+    growth(&file);
 }
