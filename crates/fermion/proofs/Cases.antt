@@ -17,7 +17,7 @@ use Rattle.record.specs.Layout.{header, column, columns, together, termsIn, lai
 use Rattle.record.specs.Refusals.{orElse, inside, termRefusal, termsRefusal, refusalOf}
 use Rattle.lincomb.specs.Normal.{join, insert, collect, dropZeros}
 use Rattle.lincomb.specs.Results.{pairRefusal, resultRefusal, recordOutput}
-use Rattle.multiply.specs.Products.{pairRows, rowsWith, allRows, branchesWith, allBranches}
+use Rattle.pairs.specs.Products.{pairRows, rowsWith, allRows, branchesWith, allBranches}
 use Rattle.multiply.specs.Answers.{weightRefusal, workRefusal}
 use Rattle.fermion.specs.Cases.{cases, AllHold}
 

@@ -27,11 +27,11 @@ use Rattle.lincomb.proofs.Normal.{normal-is}
 use Rattle.lincomb.proofs.Results.{Opens, opens, shuts, sound, refused-earlier}
 use Rattle.joins.specs.Collected.{Collected}
 use Rattle.joins.specs.KeyWeights.{Light}
-use Rattle.multiply.specs.Products.{allRows, allBranches}
+use Rattle.pairs.specs.Products.{allRows, allBranches}
 use Rattle.multiply.specs.Answers.{weightRefusal, workRefusal, earlyRefusal, productAnswer}
-use Rattle.multiply.specs.Filling.{Filled, Grown, filled, over}
-use Rattle.multiply.specs.declared.Fill.{Fill}
-use Rattle.multiply.proofs.Filling.{not-over}
+use Rattle.pairs.specs.Filling.{Filled, Grown, filled, over}
+use Rattle.pairs.specs.declared.Fill.{Fill}
+use Rattle.pairs.proofs.Filling.{not-over}
 use Rattle.multiply.proofs.Counting.{all-branches, all-light}
 
 -- two weights that 8 does not refuse

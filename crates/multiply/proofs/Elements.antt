@@ -12,7 +12,7 @@ use Rattle.products.specs.Product.{rowsTimes}
 use Rattle.products.proofs.ProductActs.{product-acts}
 use Rattle.record.specs.Canonical.{Inside}
 use Rattle.lincomb.proofs.Totals.{element-append, adds-signed, signed-add, signed-zero}
-use Rattle.multiply.specs.Products.{pairRows, rowsWith, allRows, pairInTurn, withInTurn, inTurn}
+use Rattle.pairs.specs.Products.{pairRows, rowsWith, allRows, pairInTurn, withInTurn, inTurn}
 
 -- (w + x) + (y + z) by its first and its second parts
 regroup : (w x y z : ℤ) → (w +ℤ x) +ℤ (y +ℤ z) ≡ (w +ℤ y) +ℤ (x +ℤ z)

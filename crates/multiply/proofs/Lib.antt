@@ -1,10 +1,6 @@
-pub mod Standing
-pub mod Appending
-pub mod Filling
-pub mod Pairing
+pub mod Counting
 pub mod Delivering
 pub mod Refusing
-pub mod Counting
 pub mod Answering
 pub mod Elements
 pub mod Theorems

@@ -27,7 +27,7 @@ use Rattle.lincomb.proofs.Totals.{element-normal}
 use Rattle.lincomb.proofs.Normal.{every-append, every-normal, normal-ascending, normal-nonzero}
 use Rattle.lincomb.proofs.Sums.{inside-joins}
 use Rattle.lincomb.proofs.Results.{first-fine, second-fine, same-modes, result-earlier, result-accepted, result-modes, result-terms}
-use Rattle.multiply.specs.Products.{pairRows, rowsWith, allRows, allBranches, inTurn}
+use Rattle.pairs.specs.Products.{pairRows, rowsWith, allRows, allBranches, inTurn}
 use Rattle.multiply.specs.Answers.{weightRefusal, workRefusal, earlyRefusal, productAnswer, productOf, commutatorOf, anticommutatorOf}
 use Rattle.multiply.proofs.Elements.{other, all-elements}
 

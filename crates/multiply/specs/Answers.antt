@@ -15,7 +15,7 @@ use Rattle.record.specs.Layout.{modesOf, termsOf}
 use Rattle.record.specs.Refusals.{orElse}
 use Rattle.lincomb.specs.Normal.{normal}
 use Rattle.lincomb.specs.Results.{pairRefusal, resultOf}
-use Rattle.multiply.specs.Products.{allRows, allBranches}
+use Rattle.pairs.specs.Products.{allRows, allBranches}
 
 -- 8: the product of the two weights
 unfoldable pub weightRefusal : ℕ → ℕ → Refusal

@@ -1,10 +1,10 @@
--- `multiply::cancels` meets its contract: sizes alike and numbers not, so the numbers are opposite.
+-- `pairs::cancels` meets its contract: sizes alike and numbers not, so the numbers are opposite.
 use mathlib.Core.Path.{sym}
 use mathlib.Core.Bool.{true≢false}
-use Rattle.multiply.proofs.Standing.{opposite-rows}
+use Rattle.pairs.proofs.Standing.{opposite-rows}
 use borrow.Author.Needs.{needs}
-use Rattle.multiply.proofs.cancels.Statement.{statement}
-use Rattle.multiply.proofs.cancels.Tie as tie
+use Rattle.pairs.proofs.cancels.Statement.{statement}
+use Rattle.pairs.proofs.cancels.Tie as tie
 
 returns : tie.Need-returns
 returns c = λ e. absurd (true≢false (sym e))

@@ -8,10 +8,10 @@ use lib.ListN.{length, length-append}
 use Rattle.modes.specs.declared.Term.{Term}
 use Rattle.lent.specs.Rows.{rowAt, rowsAt}
 use Rattle.lent.proofs.RowLaws.{rows-more}
-use Rattle.multiply.specs.Filling.{Room, Stands, Filled, Grown, filled, over, Adds, Appended, Opposite, Settled, cancelled, kept}
-use Rattle.multiply.specs.Filling as filling
-use Rattle.multiply.specs.declared.Fill.{Fill}
-use Rattle.multiply.proofs.Standing.{stands-same, stands-trans, stands-append, stands-swap, stands-cancel}
+use Rattle.pairs.specs.Filling.{Room, Stands, Filled, Grown, filled, over, Adds, Appended, Opposite, Settled, cancelled, kept}
+use Rattle.pairs.specs.Filling as filling
+use Rattle.pairs.specs.declared.Fill.{Fill}
+use Rattle.pairs.proofs.Standing.{stands-same, stands-trans, stands-append, stands-swap, stands-cancel}
 
 -- nothing yet
 pub nothing-filled : (l : List ℕ) → Filled [] l (record { used = 0; held = 0 })

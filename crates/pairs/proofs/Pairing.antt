@@ -18,10 +18,10 @@ use Rattle.products.proofs.Walks.{abs-signed}
 use Rattle.record.specs.Terms.{weight}
 use Rattle.record.specs.Reading.{At}
 use Rattle.record.proofs.Weights.{weight-at}
-use Rattle.multiply.specs.Products.{pairRows, rowsWith, allRows}
-use Rattle.multiply.specs.Filling.{Room, Filled, Grown, filled, Adds}
-use Rattle.multiply.specs.declared.Fill.{Fill}
-use Rattle.multiply.proofs.Filling.{nothing-filled, filled-as, over-more, not-over}
+use Rattle.pairs.specs.Products.{pairRows, rowsWith, allRows}
+use Rattle.pairs.specs.Filling.{Room, Filled, Grown, filled, Adds}
+use Rattle.pairs.specs.declared.Fill.{Fill}
+use Rattle.pairs.proofs.Filling.{nothing-filled, filled-as, over-more, not-over}
 
 -- p is the product of the coefficients, from their bits
 module _ (minus : Bool) (t u : Term) (ft : SFits w64 (t .coeff)) (fu : SFits w64 (u .coeff)) (small : natAbs (t .coeff) * natAbs (u .coeff) < 2 ^ 63)

@@ -19,8 +19,8 @@ use Rattle.record.specs.Coefficients.{coeffIn, coeffOf}
 use Rattle.record.proofs.Coefficients.{coeff-append}
 use Rattle.joins.specs.KeyWeights.{keyWeight}
 use Rattle.joins.proofs.KeyWeights.{weight-append}
-use Rattle.multiply.specs.Filling.{Stands, Opposite, Settled, cancelled, kept}
-use Rattle.multiply.specs.declared.Fill.{Fill}
+use Rattle.pairs.specs.Filling.{Stands, Opposite, Settled, cancelled, kept}
+use Rattle.pairs.specs.declared.Fill.{Fill}
 
 -- numbers as far from zero as each other, and not the same, add up to nothing
 pub opposite-sum : (x y : ℤ) → natAbs x ≡ natAbs y → (x ≡ y → ⊥) → x +ℤ y ≡ pos 0

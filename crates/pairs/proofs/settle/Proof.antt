@@ -1,9 +1,9 @@
--- `multiply::settle` meets its contract: the last row and the row in hand go, or the row in hand is stored.
+-- `pairs::settle` meets its contract: the last row and the row in hand go, or the row in hand is stored.
 use lib.ListN.{length}
-use Rattle.multiply.proofs.Standing.{settled-cancelled, settled-kept}
+use Rattle.pairs.proofs.Standing.{settled-cancelled, settled-kept}
 use borrow.Author.Needs.{needs}
-use Rattle.multiply.proofs.settle.Statement.{statement}
-use Rattle.multiply.proofs.settle.Tie as tie
+use Rattle.pairs.proofs.settle.Statement.{statement}
+use Rattle.pairs.proofs.settle.Tie as tie
 
 get-row-requires : tie.Need-get-row-requires
 get-row-requires c κs = search needs

@@ -1,4 +1,4 @@
--- `multiply::append_all` meets its contract: of the rows of all pairs, some are there and the rest is to come.
+-- `pairs::append_all` meets its contract: of the rows of all pairs, some are there and the rest is to come.
 use mathlib.Core.Path.{_∙_}
 use Prim.Native.Nat.{_-_, _≤_}
 use native.Mathlib.Omega.{arith}
@@ -6,11 +6,11 @@ use lib.ListN.{drop}
 use Rattle.record.specs.Terms.{weight}
 use Rattle.record.specs.Layout.{termsIn}
 use Rattle.record.proofs.Reading.{none-left}
-use Rattle.multiply.specs.Products.{allRows}
-use Rattle.multiply.proofs.Pairing.{Progress, progress-starts, progress-goes, progress-over, progress-ends, from-nothing, all-next, all-none, one-light}
+use Rattle.pairs.specs.Products.{allRows}
+use Rattle.pairs.proofs.Pairing.{Progress, progress-starts, progress-goes, progress-over, progress-ends, from-nothing, all-next, all-none, one-light}
 use borrow.Author.Needs.{needs}
-use Rattle.multiply.proofs.append_all.Statement.{statement}
-use Rattle.multiply.proofs.append_all.Tie as tie
+use Rattle.pairs.proofs.append_all.Statement.{statement}
+use Rattle.pairs.proofs.append_all.Tie as tie
 
 abbrev Inv-loop : tie.InvT-loop
 Inv-loop both sign work₀ a na b nb at₀ i₀ work at i = (i ≤ na) × Progress (allRows both (sign .0) (termsIn a na) (termsIn b nb)) (allRows both (sign .0) (drop i (termsIn a na)) (termsIn b nb)) work₀ (record { used = 0; held = 0 }) work at

@@ -23,8 +23,8 @@ use Rattle.products.specs.Product.{notEmpty, branching, rowsTimes}
 use Rattle.products.specs.Fitting.{Fitting, rowsOf}
 use Rattle.products.specs.declared.ProductHelper.{ProductHelper}
 use Rattle.products.proofs.Multiplied.{bifurcation-number, rows-none, rows-number}
-use Rattle.multiply.specs.Filling.{Room, Appended, fits, over}
-use Rattle.multiply.specs.declared.Fill.{Fill}
+use Rattle.pairs.specs.Filling.{Room, Appended, fits, over}
+use Rattle.pairs.specs.declared.Fill.{Fill}
 
 -- what `destroys` answers
 pub empty-where : (d x : Bool) → d ≡ not x → d ≡ true → x ≡ false

@@ -8,7 +8,7 @@ use Rattle.modes.specs.declared.Term.{Term}
 use Rattle.lent.specs.Rows.{rowAt, rowsAt}
 use Rattle.record.specs.Coefficients.{coeffOf}
 use Rattle.joins.specs.KeyWeights.{keyWeight}
-use Rattle.multiply.specs.declared.Fill.{Fill}
+use Rattle.pairs.specs.declared.Fill.{Fill}
 
 -- what is used is held, and what is held fits
 pub record Room (l : List ℕ) (s : Fill) : Type 0 where

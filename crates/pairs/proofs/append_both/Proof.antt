@@ -1,12 +1,12 @@
--- `multiply::append_both` meets its contract: each way through it adds the rows of both products.
+-- `pairs::append_both` meets its contract: each way through it adds the rows of both products.
 use borrow.Author.Needs.{needs}
 use mathlib.Core.Path.{_∙_}
 use mir.Facts.{toZ-ofZ}
 use Rattle.products.specs.Product.{rowsTimes}
-use Rattle.multiply.proofs.Appending.{appended-as}
-use Rattle.multiply.proofs.Filling.{product-room, product-adds, adds-then, adds-over, last-row, last-fits, rest-room, second-over, settle-room, settled-adds}
-use Rattle.multiply.proofs.append_both.Statement.{statement}
-use Rattle.multiply.proofs.append_both.Tie as tie
+use Rattle.pairs.proofs.Appending.{appended-as}
+use Rattle.pairs.proofs.Filling.{product-room, product-adds, adds-then, adds-over, last-row, last-fits, rest-room, second-over, settle-room, settled-adds}
+use Rattle.pairs.proofs.append_both.Statement.{statement}
+use Rattle.pairs.proofs.append_both.Tie as tie
 
 helper-of-requires : tie.Need-helper-of-requires
 helper-of-requires c κs = search needs

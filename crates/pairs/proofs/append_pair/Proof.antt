@@ -1,13 +1,13 @@
--- `multiply::append_pair` meets its contract: the coefficients are the product, and the product with the sign.
+-- `pairs::append_pair` meets its contract: the coefficients are the product, and the product with the sign.
 use mir.Facts.{toZ-ofZ}
-use Rattle.multiply.specs.Products.{pairRows}
-use Rattle.multiply.specs.Filling.{Adds}
-use Rattle.multiply.proofs.Appending.{appended-as}
-use Rattle.multiply.proofs.Filling.{product-adds}
-use Rattle.multiply.proofs.Pairing.{product-below, swapped-below, one-order, both-orders}
+use Rattle.pairs.specs.Products.{pairRows}
+use Rattle.pairs.specs.Filling.{Adds}
+use Rattle.pairs.proofs.Appending.{appended-as}
+use Rattle.pairs.proofs.Filling.{product-adds}
+use Rattle.pairs.proofs.Pairing.{product-below, swapped-below, one-order, both-orders}
 use borrow.Author.Needs.{needs}
-use Rattle.multiply.proofs.append_pair.Statement.{statement}
-use Rattle.multiply.proofs.append_pair.Tie as tie
+use Rattle.pairs.proofs.append_pair.Statement.{statement}
+use Rattle.pairs.proofs.append_pair.Tie as tie
 
 product-requires : tie.Need-product-requires
 product-requires c κs = search needs

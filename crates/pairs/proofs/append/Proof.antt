@@ -1,12 +1,12 @@
--- `multiply::append` meets its contract: no rows, the rows after those that are there, or too many.
+-- `pairs::append` meets its contract: no rows, the rows after those that are there, or too many.
 use lib.ListN.{length}
 use mir.Facts.{toZ-ofZ}
 use Rattle.products.proofs.ProductTheorems.{rows-fit}
 use mathlib.Core.Path.{sym, _∙_}
-use Rattle.multiply.proofs.Appending.{empty-where, full-where, none-appended, fitting, held-fits, appended, too-many}
+use Rattle.pairs.proofs.Appending.{empty-where, full-where, none-appended, fitting, held-fits, appended, too-many}
 use borrow.Author.Needs.{needs}
-use Rattle.multiply.proofs.append.Statement.{statement}
-use Rattle.multiply.proofs.append.Tie as tie
+use Rattle.pairs.proofs.append.Statement.{statement}
+use Rattle.pairs.proofs.append.Tie as tie
 
 destroys-requires : tie.Need-destroys-requires
 destroys-requires c κs = search needs

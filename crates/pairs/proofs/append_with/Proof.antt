@@ -1,15 +1,15 @@
--- `multiply::append_with` meets its contract: of the rows of one term with all, some are there and the rest is to come.
+-- `pairs::append_with` meets its contract: of the rows of one term with all, some are there and the rest is to come.
 use mathlib.Core.Path.{_∙_}
 use Prim.Native.Nat.{_-_, _≤_}
 use native.Mathlib.Omega.{arith}
 use lib.ListN.{drop}
 use Rattle.record.specs.Layout.{termsIn}
 use Rattle.record.proofs.Reading.{none-left}
-use Rattle.multiply.specs.Products.{rowsWith}
-use Rattle.multiply.proofs.Pairing.{Progress, progress-starts, progress-goes, progress-over, progress-ends, with-next, with-none, pair-light}
+use Rattle.pairs.specs.Products.{rowsWith}
+use Rattle.pairs.proofs.Pairing.{Progress, progress-starts, progress-goes, progress-over, progress-ends, with-next, with-none, pair-light}
 use borrow.Author.Needs.{needs}
-use Rattle.multiply.proofs.append_with.Statement.{statement}
-use Rattle.multiply.proofs.append_with.Tie as tie
+use Rattle.pairs.proofs.append_with.Statement.{statement}
+use Rattle.pairs.proofs.append_with.Tie as tie
 
 abbrev Inv-loop : tie.InvT-loop
 Inv-loop both sign work₀ t b n at₀ j₀ work at j = (j ≤ n) × Progress (rowsWith both (sign .0) t (termsIn b n)) (rowsWith both (sign .0) t (drop j (termsIn b n))) work₀ at₀ work at

@@ -1,0 +1,4 @@
+pub mod Standing
+pub mod Appending
+pub mod Filling
+pub mod Pairing

@@ -1,0 +1,2 @@
+pub mod Products
+pub mod Filling
