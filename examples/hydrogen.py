@@ -5,8 +5,8 @@ STO-3G, 1.401 bohr. The integrals over the two molecular orbitals are those of J
 A. Aspuru-Guzik, Molecular Physics 109 (2011) 735, in millionths of a hartree; the values of A. Szabo and N. S. Ostlund,
 Modern Quantum Chemistry, section 3.5.2, at 1.4 bohr agree with them to three digits.
 
-The library tells that the record is Hermitian and conserves the number of particles, and gives its exact matrix on the
-six words with two electrons. The lowest eigenvalue of that matrix and the repulsion of the nuclei are the energy.
+The library tells that the record is Hermitian and conserves the number of particles, which is that its commutator with the
+number operator has no terms, and gives its exact matrix on the six words with two electrons. The lowest eigenvalue of that matrix and the repulsion of the nuclei are the energy.
 """
 import ctypes
 import itertools
@@ -66,10 +66,8 @@ class Library:
     """The functions of include/fermion.h that are needed here, from the shared object of the proved library."""
 
     def __init__(self):
-        path = os.path.join(ROOT, "target", "native", "libfermion.so")
-        if not os.path.exists(path):
-            subprocess.run([os.path.join(ROOT, "tools", "shared_object.sh"), path], check=True)
-        self.lib = ctypes.CDLL(path)
+        built = subprocess.run([os.path.join(ROOT, "tools", "shared_object.sh")], check=True, capture_output=True, text=True)
+        self.lib = ctypes.CDLL(built.stdout.strip().split("\n")[-1].split(": ")[0])
 
     def call(self, name, *args):
         """The answer's eight numbers. A refusal ends the program."""
@@ -81,6 +79,12 @@ class Library:
 
     def tells(self, name, a):
         return bool(self.call(name, a, ctypes.c_size_t(len(a)))[5])
+
+    def commute(self, a, b):
+        """Whether the commutator has no terms: its record is then the header alone."""
+        lent = [ctypes.create_string_buffer(n) for n in (65520, 49184)]
+        args = [x for buffer in (a, b, *lent) for x in (buffer, ctypes.c_size_t(len(buffer)))]
+        return self.call("fermion_commutator", *args)[3] == 32
 
     def matrix(self, a, basis):
         entries = (ctypes.c_int64 * 64)()
@@ -112,15 +116,17 @@ def main():
     basis = [w for w in range(1 << MODES) if bin(w).count("1") == 2]
     print(f"molecular hydrogen, STO-3G, {DISTANCE} bohr: {len(terms)} terms on {MODES} spin orbitals, {len(a)} bytes")
     hermitian = library.tells("fermion_is_hermitian", a)
+    number = record(MODES, [(word(p), word(p), 1) for p in range(MODES)])
     conserving = library.tells("fermion_conserves_particle_number", a)
-    print(f"Hermitian: {hermitian}; conserves the number of particles: {conserving}")
+    commutes = library.commute(a, number)
+    print(f"Hermitian: {hermitian}; conserves the number of particles: {conserving}; [H, number operator] has no terms: {commutes}")
     matrix = library.matrix(a, basis)
     print("its matrix on the words with two electrons, in millionths of a hartree:")
     for bra, row in zip(basis, matrix):
         print(f"  {bra:04b} |" + "".join(f"{entry:10}" for entry in row))
     electrons = lowest_eigenvalue(matrix) / SCALE
     energy = electrons + 1 / DISTANCE
-    right = hermitian and conserving and abs(energy - KNOWN) < CLOSE
+    right = hermitian and conserving and commutes and abs(energy - KNOWN) < CLOSE
     print(f"electrons {electrons:.6f} and nuclei {1 / DISTANCE:.6f}: {energy:.6f} hartree, known {KNOWN}")
     print("as known" if right else "NOT as known")
     return 0 if right else 1

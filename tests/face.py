@@ -1,4 +1,4 @@
-"""The C face from Python: the shared object, built anew, and calls with garbage in every lent buffer and guards around it."""
+"""The C face from Python: the shared object, and calls with garbage in every lent buffer and guards around it."""
 import ctypes
 import os
 import random

@@ -3,15 +3,29 @@
 # from Python or timed. OUT is target/native/libfermion.so unless given.
 # On x86-64 it is the code of the archive that `rt staticlib fermion` writes. Elsewhere the toolchain's archive cannot be
 # linked, so the same module is compiled a second time for this machine's processor. The last line says which it was.
+# Where nothing under crates/ has changed since OUT was made, it is not made again: the file OUT.from says what it was
+# made from, and ends with that last line.
 set -euo pipefail
 cd "$(dirname "$0")/.."
 out=$(realpath -m "${1:-target/native/libfermion.so}")
 mkdir -p "$(dirname "$out")" target/log
 log=target/log/shared_object.out
+exec 9>"$out.lock"
+flock 9 # two tests may ask for it at once
+from=$({ rt version; uname -m; sha256sum tools/shared_object.sh crates.txt; find crates -type f -exec sha256sum {} + | sort; } | sha256sum)
+if [ -f "$out" ] && [ -f target/staticlib/libfermion.a ] && [ "$(head -n 1 "$out.from" 2>/dev/null)" = "$from" ]; then
+    tail -n 1 "$out.from"
+    exit
+fi
+rm -f "$out" "$out.from"
+made() { # says which code it is, now and later
+    printf '%s\n' "$from" "$1" >"$out.from"
+    echo "$1"
+}
 rt staticlib fermion >"$log" 2>&1 || { cat "$log"; exit 1; }
 if [ "$(uname -m)" = x86_64 ]; then
     gcc -shared -o "$out" -Wl,--whole-archive target/staticlib/libfermion.a -Wl,--no-whole-archive
-    echo "$out: x86-64, the archive's own code"
+    made "$out: x86-64, the archive's own code"
     exit
 fi
 home=$(cd "$(dirname "$(readlink -f "$(command -v rt)")")/.." && pwd -P)
@@ -44,4 +58,4 @@ sed -e '/^target /d' -e 's/"target-cpu"="x86-64"//g; s/"target-features"="[^"]*"
     "$work/raw.ll" >"$work/own.ll"
 "$clang" --target="$(uname -m)-unknown-linux-gnu" -Wno-override-module -O3 -fPIC -c -x ir "$work/own.ll" -o "$work/own.o"
 gcc -shared -o "$out" "$work/own.o"
-echo "$out: $(uname -m), the same module compiled for this processor"
+made "$out: $(uname -m), the same module compiled for this processor"

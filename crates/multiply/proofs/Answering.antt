@@ -32,7 +32,7 @@ use Rattle.multiply.specs.Answers.{weightRefusal, workRefusal, earlyRefu
 use Rattle.pairs.specs.Filling.{Filled, Grown, filled, over}
 use Rattle.pairs.specs.declared.Fill.{Fill}
 use Rattle.pairs.proofs.Filling.{not-over}
-use Rattle.multiply.proofs.Counting.{all-branches, all-light}
+use Rattle.pairs.proofs.Counting.{all-branches, all-light}
 
 -- two weights that 8 does not refuse
 light-product : (v w : ℕ) → (weightRefusal v w) .number ≡ 0 → v * w ≤ 2 ^ 60

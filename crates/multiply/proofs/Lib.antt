@@ -1,4 +1,3 @@
-pub mod Counting
 pub mod Delivering
 pub mod Refusing
 pub mod Answering

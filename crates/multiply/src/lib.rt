@@ -82,7 +82,7 @@ fn deliver(work: &[u8], n: usize, branches: u64, m: u64, out: &mut [u8]) -> Writ
     }
 }
 
-// The rows of two records that are open, joined and delivered. The work is left as it is, for `multiply` wipes it.
+// The rows of two records that are open, joined and delivered. The work is left as it is, for `finish` wipes it.
 fn produce(both: bool, sign: Sign, a: &[u8], b: &[u8], work: &mut [u8], out: &mut [u8]) -> Written
     ensures { λ r. ⌜ Gives (productAnswer both (sign .0) (length (now (work .entry))) (length (now (out .entry))) (now (a .entry)) (now (b .entry))) r (now (out .exit)) ⌝ }
 {
@@ -108,13 +108,20 @@ fn produce(both: bool, sign: Sign, a: &[u8], b: &[u8], work: &mut [u8], out: &mu
     deliver(work, n, (s.held / 24) as u64, p.modes, out)
 }
 
-// One of the three answers, and a work all zero, on every way out.
+// The one way out of every call: its answer, once the work is wiped.
+fn finish(w: Written, work: &mut [u8]) -> Written
+    ensures { λ r. ⌜ (r ≡ w) × (now (work .exit) ≡ zeros (length (now (work .entry)))) ⌝ }
+{
+    lent::wipe(work);
+    w
+}
+
+// One of the three answers, and a work all zero.
 fn multiply(both: bool, sign: Sign, a: &[u8], b: &[u8], work: &mut [u8], out: &mut [u8]) -> Written
     ensures { λ r. ⌜ Leaves (productAnswer both (sign .0) (length (now (work .entry))) (length (now (out .entry))) (now (a .entry)) (now (b .entry))) r (now (out .exit)) (length (now (work .entry))) (now (work .exit)) ⌝ }
 {
     let w = produce(both, sign, a, b, work, out);
-    lent::wipe(work);
-    w
+    finish(w, work)
 }
 
 // The record of the product a b.

@@ -2,3 +2,4 @@ pub mod Standing
 pub mod Appending
 pub mod Filling
 pub mod Pairing
+pub mod Counting

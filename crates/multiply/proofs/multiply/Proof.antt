@@ -8,8 +8,8 @@ use Rattle.multiply.proofs.multiply.Tie as tie
 produce-requires : tie.Need-produce-requires
 produce-requires c κs = search needs
 
-wipe-requires : tie.Need-wipe-requires
-wipe-requires c κs = search needs
+finish-requires : tie.Need-finish-requires
+finish-requires c κs = search needs
 
 same-length : tie.Need-same-length
 same-length c = search needs
@@ -18,8 +18,10 @@ same-length-2 : tie.Need-same-length-2
 same-length-2 c = search needs
 
 returns : tie.Need-returns
-returns c = record { output = c .before .before .before .before .before .before .before .before .produce .ensures; clean = c .before .before .wipe .ensures ∙ ap zeros (c .before .before .before .before .before .before .before .before .produce .kept .1 .1 .1 .1 .0) }
+returns c =
+    let made = c .before .before .before .before .before .before .before .before .produce in
+    let done = c .before .before .finish .ensures in
+    record { output = record { answer = done .0 ∙ made .ensures .answer; bytes = made .ensures .bytes }; clean = done .1 ∙ ap zeros (made .kept .1 .1 .1 .1 .0) }
 
 pub multiply-spec : {M : Type 1} → statement M
-multiply-spec =
-    tie.close (tie.spec produce-requires wipe-requires same-length same-length-2 returns)
+multiply-spec = tie.close (tie.spec produce-requires finish-requires same-length same-length-2 returns)
