@@ -6,7 +6,7 @@
 //!
 //! First commutators of random two-body terms. Then how cost grows with rows: products of the sums of {w|w} over the first
 //! words w, which have as many rows as pairs and as many result terms as words; and {|0..b-1} times {0..b-1|}, whose 2^b rows
-//! are all different. zixy multiplies f64 coefficients into a set of terms of its own; the library reads and checks two
+//! are all different; and what wiping costs. zixy multiplies f64 coefficients into a set of terms of its own; the library reads and checks two
 //! records, works in lent memory that it wipes, and writes one record. A call that it refuses gives no ratio.
 use programs::draw::Draw;
 use programs::operators::{operator, record, zixy_terms, Operator};
@@ -115,8 +115,25 @@ fn growth(file: &str) {
     }
 }
 
+/// One product of two terms, in work and output of growing lengths: nearly all of the time goes into wiping them.
+fn wiping(file: &str) {
+    println!("{{0|1}} times {{1|0}}: what wiping costs");
+    println!("{:>12}{:>14}{:>16}", "work bytes", "library ns", "ns a work byte");
+    let (a, b) = (record(2, &Operator::from([((2, 1), 1)])), record(2, &Operator::from([((1, 2), 1)])));
+    for rows in [2usize, 256, 2_730, 65_536, 1 << 20] {
+        let mut library = Library::new(file, c"fermion_mul", rows);
+        library.out.truncate(80);
+        let mut own = Timing::default();
+        for _ in 0..21 {
+            own.turn(|| assert_eq!(library.call(&a, &b)[0], 0));
+        }
+        println!("{:>12}{:>14.0}{:>16.3}", 24 * rows, own.nanoseconds(), own.nanoseconds() / (24 * rows) as f64);
+    }
+}
+
 fn main() {
     let file = std::env::args().nth(1).unwrap_or_else(|| timing::fail("bench_commutator", "bench_commutator FILE.so".into()));
     commutators(&file);
     growth(&file);
+    wiping(&file);
 }

@@ -1,0 +1,16 @@
+#!/bin/sh
+# Times the library beside the unchanged Rust, every pair in one process and by turns, and prints the ratios that stand in
+# docs/SPEED.md. oracle/README.md lists what the Rust needs.
+#
+#   ZIXY_SRC=<folder of zixy's sources> sh bench/run.sh
+set -eu
+root=$(cd "$(dirname "$0")/.." && pwd)
+sh "$root/oracle/build.sh"
+library=$("$root/tools/shared_object.sh" | tail -n 1)
+echo "the library: ${library#*: }"
+library=${library%%: *}
+sh "$root/oracle/bench_mul.sh" "$library"
+for program in add commutator matrix float; do
+    echo "== $program"
+    "$root/oracle/build/unchanged/target/release/bench_$program" "$library"
+done
