@@ -125,8 +125,8 @@ class Records(unittest.TestCase):
             with Refused(self, 1, 1, 0):
                 Record.build(m, [])
         for wrong in ((4, 0, 1), (0, 4, 1), (5, 1, 0)):
-            with Refused(self, 2, 1, 2):
-                Record.build(2, [(2, 2, 1), (1, 1, 1), wrong])
+            with Refused(self, 2, 1, 1):
+                Record.build(2, [(2, 2, 1), wrong, (1, 1, 1)])
         with Refused(self, 10, 0, 0):
             Record.build(12, [(cre, 0, 2**60) for cre in range(2049)])
         with Refused(self, 9, 0, 0):
