@@ -1,0 +1,66 @@
+"""The examples in docstrings and documents run, and the sentences of the refusals are those of docs/RECORD.md."""
+import doctest
+import os
+import re
+import tempfile
+import unittest
+from pathlib import Path
+
+import fermion
+from fermion import _calls, _face, _record, _types
+
+HERE = Path(__file__).resolve().parent
+RECORD = HERE.parents[2] / "docs" / "RECORD.md"
+NAMES = {name: getattr(fermion, name) for name in fermion.__all__}
+
+
+def load_tests(loader, tests, pattern):
+    """One test for each docstring with examples, and one for the README."""
+    for module in (fermion, _calls, _face, _record, _types):
+        tests.addTests(doctest.DocTestSuite(module, extraglobs=NAMES))
+    tests.addTests(doctest.DocFileSuite(str(HERE.parent / "README.md"), module_relative=False))
+    return tests
+
+
+class Documents(unittest.TestCase):
+    def test_the_sentences_are_those_of_the_table(self):
+        section = RECORD.read_text(encoding="utf-8").split("\n## Refusals\n")[1]
+        rows = re.findall(r"^\| (\d+) \| ([^|]+) \|", section, re.M)
+        self.assertEqual({int(number): sentence for number, sentence in rows}, fermion.SENTENCES)
+
+    def test_a_number_without_a_sentence(self):
+        self.assertIn("no words", str(fermion.Refusal(99, 0, 0)))
+
+    def test_a_record_written_as_the_document_does(self):
+        text = RECORD.read_text(encoding="utf-8")
+        code = re.search(r"```python\n(.*?)```", text, re.S).group(1)
+        example = bytes.fromhex("".join(re.findall(r"^\| \d+ to \d+ \| `([0-9A-F ]+)` \|", text, re.M)))
+        names = {}
+        exec(code, names)
+        terms = [(1, 1, 1), (2, 2, -1)]
+        self.assertEqual(names["write"](2, terms), example)
+        self.assertEqual(names["read"](example), (2, terms))
+        self.assertEqual(bytes(fermion.Record.build(2, terms)), example)
+        self.assertEqual(bytes(fermion.Record.build(64, [])), names["write"](64, []))
+        self.assertEqual(names["read"](names["write"](64, [])), (64, []))
+
+    def test_every_function_of_the_header_is_bound(self):
+        header = (HERE.parents[2] / "include" / "fermion.h").read_text(encoding="utf-8")
+        declared = set(re.findall(r"void fermion_(\w+)\(", header))
+        self.assertEqual(declared, set(_face.SHAPES))
+        self.assertLessEqual(declared, set(fermion.__all__))
+
+
+class Loading(unittest.TestCase):
+    def tearDown(self):
+        fermion.load()
+
+    def test_a_library_that_is_not_there(self):
+        with tempfile.TemporaryDirectory() as folder:
+            with self.assertRaisesRegex(FileNotFoundError, "FERMION_LIB"):
+                fermion.load(os.path.join(folder, "libfermion.so"))
+        self.assertEqual(fermion.apply(0, 0, 5).word, 5)  # the one loaded before is still there
+
+
+if __name__ == "__main__":
+    unittest.main()

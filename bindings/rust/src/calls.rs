@@ -1,0 +1,494 @@
+use crate::face::{self, List, Multiplies, Reads, Sums};
+use crate::record::{HEADER, ROW};
+use crate::{Record, Refusal, Rows, Term, MAX_BYTES, MAX_TERMS};
+
+/// The most words that a basis may have.
+pub const MAX_BASIS: usize = 8;
+/// The bytes of work that a product is tried with first, where the caller lends none.
+pub const FIRST_WORK: usize = 65_520;
+/// The bytes of work beyond which a product is not tried again, unless the caller names another ceiling.
+pub const WORK_CEILING: usize = 1 << 28;
+
+/// What a term does to an occupation word.
+#[derive(Clone, Copy, Debug, PartialEq, Eq, Hash)]
+pub enum Outcome {
+    /// It takes it to another.
+    Applied {
+        /// The new word.
+        word: u64,
+        /// 1 or -1.
+        sign: i64,
+    },
+    /// It gives nothing.
+    Zero,
+}
+
+/// What the check of a record found.
+#[derive(Clone, Copy, Debug, PartialEq, Eq, Hash)]
+pub struct Checked {
+    /// The mode count m.
+    pub modes: u64,
+    /// The number of terms.
+    pub terms: u64,
+    /// The sum of the coefficients' magnitudes.
+    pub weight: u64,
+}
+
+/// The record of a product, and how many branches it took.
+#[derive(Clone, Debug, PartialEq, Eq, Hash)]
+pub struct Product<'a> {
+    /// The record.
+    pub record: Record<'a>,
+    /// The branches: a work of 24 bytes for each is enough.
+    pub branches: u64,
+}
+
+/// Whether two records are equal.
+#[derive(Clone, Copy, Debug, PartialEq, Eq, Hash)]
+pub enum Comparison {
+    /// They are, in all elements and in all bytes.
+    Equal,
+    /// They are not: their elements at this bra and ket differ.
+    Different {
+        /// The bra.
+        bra: u64,
+        /// The ket.
+        ket: u64,
+    },
+}
+
+/// The term {cre|ann} on an occupation word.
+///
+/// ```
+/// use fermion::{apply, word, Outcome};
+/// assert_eq!(apply(word(&[2]), word(&[0]), word(&[0, 1])), Outcome::Applied { word: 6, sign: -1 });
+/// assert_eq!(apply(word(&[0]), 0, word(&[0])), Outcome::Zero);
+/// ```
+pub fn apply(cre: u64, ann: u64, ket: u64) -> Outcome {
+    match face::apply(cre, ann, ket) {
+        [.., 0, _, _] => Outcome::Zero,
+        [.., word, minus] => Outcome::Applied { word, sign: if minus == 0 { 1 } else { -1 } },
+    }
+}
+
+/// The terms of the product of two terms, each given as (creation word, annihilation word).
+///
+/// There are 2^b of them for b modes that branch. Refusal 7: their rows do not fit into [`WORK_CEILING`] bytes.
+///
+/// ```
+/// let terms = fermion::mul_cmpnts((0, 1), (1, 0))?;
+/// assert_eq!(terms, [(0, 0, 1).into(), (1, 1, -1).into()]);
+/// # Ok::<(), fermion::Refusal>(())
+/// ```
+pub fn mul_cmpnts(left: (u64, u64), right: (u64, u64)) -> Result<Vec<Term>, Refusal> {
+    mul_cmpnts_within(left, right, WORK_CEILING)
+}
+
+/// [`mul_cmpnts`] with a ceiling of the caller's, in bytes, for its rows.
+pub fn mul_cmpnts_within(left: (u64, u64), right: (u64, u64), ceiling: usize) -> Result<Vec<Term>, Refusal> {
+    growing(ceiling, |out| Ok(mul_cmpnts_into(left, right, out)?.collect()))
+}
+
+/// [`mul_cmpnts`] with rows in memory of the caller's, which is zero past them. Refusal 7: it is too short.
+///
+/// ```
+/// let mut out = [255; 50];
+/// let rows = fermion::mul_cmpnts_into((0, 1), (1, 0), &mut out)?;
+/// assert_eq!(rows.len(), 2);
+/// assert_eq!(out[48..], [0, 0]);
+/// assert_eq!(fermion::mul_cmpnts_into((0, 1), (1, 0), &mut out[..47]).unwrap_err().number, 7);
+/// # Ok::<(), fermion::Refusal>(())
+/// ```
+pub fn mul_cmpnts_into(left: (u64, u64), right: (u64, u64), out: &mut [u8]) -> Result<Rows<'_>, Refusal> {
+    let length = face::mul_cmpnts(left, right, out)?[3] as usize;
+    Ok(Rows::new(&out[..length]))
+}
+
+/// The modes, the number of terms and the weight of a record. Refusals: 1 to 5.
+///
+/// ```
+/// use fermion::{check, Checked, Record};
+/// let record = Record::build(3, [(1, 1, 4), (2, 1, -6)])?;
+/// assert_eq!(check(&record)?, Checked { modes: 3, terms: 2, weight: 10 });
+/// # Ok::<(), fermion::Refusal>(())
+/// ```
+pub fn check(a: &(impl AsRef<[u8]> + ?Sized)) -> Result<Checked, Refusal> {
+    let [.., modes, terms, weight] = face::CHECK.call(a.as_ref())?;
+    Ok(Checked { modes, terms, weight })
+}
+
+/// The sum of two records. Refusals: 1 to 6, 10, 9.
+///
+/// ```
+/// use fermion::{add, Record};
+/// let sum = add(&Record::build(2, [(1, 1, 4)])?, &Record::build(2, [(1, 1, 1), (2, 2, 1)])?)?;
+/// assert_eq!(sum.to_string(), "5 {0|0} + 1 {1|1}");
+/// # Ok::<(), fermion::Refusal>(())
+/// ```
+pub fn add(a: &(impl AsRef<[u8]> + ?Sized), b: &(impl AsRef<[u8]> + ?Sized)) -> Result<Record<'static>, Refusal> {
+    summed(face::ADD, a.as_ref(), b.as_ref())
+}
+
+/// [`add`] with an output of the caller's, which is zero past the record, or everywhere after a refusal. Refusals: also 11.
+///
+/// ```
+/// use fermion::{add_into, Record};
+/// let (a, mut out) = (Record::build(2, [(1, 1, 4)])?, [255; 60]);
+/// assert_eq!(add_into(&a, &a, &mut out)?.weight(), 8);
+/// assert_eq!(out[56..], [0; 4]);
+/// assert_eq!(add_into(&a, &a, &mut out[..55]).unwrap_err().number, 11);
+/// # Ok::<(), fermion::Refusal>(())
+/// ```
+pub fn add_into<'o>(
+    a: &(impl AsRef<[u8]> + ?Sized),
+    b: &(impl AsRef<[u8]> + ?Sized),
+    out: &'o mut [u8],
+) -> Result<Record<'o>, Refusal> {
+    summed_into(face::ADD, a.as_ref(), b.as_ref(), out)
+}
+
+/// The first record less the second. Refusals: 1 to 6, 10, 9.
+///
+/// ```
+/// let a = fermion::Record::build(2, [(1, 1, 4)])?;
+/// assert!(fermion::sub(&a, &a)?.is_empty());
+/// # Ok::<(), fermion::Refusal>(())
+/// ```
+pub fn sub(a: &(impl AsRef<[u8]> + ?Sized), b: &(impl AsRef<[u8]> + ?Sized)) -> Result<Record<'static>, Refusal> {
+    summed(face::SUB, a.as_ref(), b.as_ref())
+}
+
+/// [`sub`] with an output of the caller's, as [`add_into`].
+pub fn sub_into<'o>(
+    a: &(impl AsRef<[u8]> + ?Sized),
+    b: &(impl AsRef<[u8]> + ?Sized),
+    out: &'o mut [u8],
+) -> Result<Record<'o>, Refusal> {
+    summed_into(face::SUB, a.as_ref(), b.as_ref(), out)
+}
+
+/// The product a b. Refusals: 1 to 6, 8, 7, 10, 9; 7 where [`WORK_CEILING`] bytes of work are not enough.
+///
+/// ```
+/// use fermion::{mul, Record};
+/// let product = mul(&Record::build(1, [(0, 1, 1)])?, &Record::build(1, [(1, 0, 1)])?)?;
+/// assert_eq!(product.record.to_string(), "1 {|} - 1 {0|0}");
+/// assert_eq!(product.branches, 2);
+/// # Ok::<(), fermion::Refusal>(())
+/// ```
+pub fn mul(a: &(impl AsRef<[u8]> + ?Sized), b: &(impl AsRef<[u8]> + ?Sized)) -> Result<Product<'static>, Refusal> {
+    mul_within(a, b, WORK_CEILING)
+}
+
+/// [`mul`] with a ceiling of the caller's, in bytes, for the work.
+///
+/// It starts with [`FIRST_WORK`] bytes and takes four times as much, up to the ceiling, as long as 7 is given.
+pub fn mul_within(
+    a: &(impl AsRef<[u8]> + ?Sized),
+    b: &(impl AsRef<[u8]> + ?Sized),
+    ceiling: usize,
+) -> Result<Product<'static>, Refusal> {
+    multiplied(face::MUL, a.as_ref(), b.as_ref(), ceiling)
+}
+
+/// [`mul`] with work and output of the caller's. The work is all zero afterwards, and the output is zero past the record, or
+/// everywhere after a refusal. Refusals: also 11.
+///
+/// ```
+/// use fermion::{mul_into, Record};
+/// let (a, mut work, mut out) = (Record::build(2, [(1, 1, 4)])?, [255; 24], [255; 56]);
+/// assert_eq!(mul_into(&a, &a, &mut work, &mut out)?.record.weight(), 16);
+/// assert_eq!(work, [0; 24]);
+/// # Ok::<(), fermion::Refusal>(())
+/// ```
+pub fn mul_into<'o>(
+    a: &(impl AsRef<[u8]> + ?Sized),
+    b: &(impl AsRef<[u8]> + ?Sized),
+    work: &mut [u8],
+    out: &'o mut [u8],
+) -> Result<Product<'o>, Refusal> {
+    multiplied_into(face::MUL, a.as_ref(), b.as_ref(), work, out)
+}
+
+/// The commutator a b - b a. Refusals and work: as [`mul`].
+///
+/// ```
+/// use fermion::{commutator, Record};
+/// let answer = commutator(&Record::build(2, [(1, 2, 1)])?, &Record::build(2, [(2, 1, 1)])?)?;
+/// assert_eq!(answer.record.to_string(), "1 {0|0} - 1 {1|1}");
+/// # Ok::<(), fermion::Refusal>(())
+/// ```
+pub fn commutator(
+    a: &(impl AsRef<[u8]> + ?Sized),
+    b: &(impl AsRef<[u8]> + ?Sized),
+) -> Result<Product<'static>, Refusal> {
+    commutator_within(a, b, WORK_CEILING)
+}
+
+/// [`commutator`] with a ceiling for the work, as [`mul_within`].
+pub fn commutator_within(
+    a: &(impl AsRef<[u8]> + ?Sized),
+    b: &(impl AsRef<[u8]> + ?Sized),
+    ceiling: usize,
+) -> Result<Product<'static>, Refusal> {
+    multiplied(face::COMMUTATOR, a.as_ref(), b.as_ref(), ceiling)
+}
+
+/// [`commutator`] with work and output of the caller's, as [`mul_into`].
+pub fn commutator_into<'o>(
+    a: &(impl AsRef<[u8]> + ?Sized),
+    b: &(impl AsRef<[u8]> + ?Sized),
+    work: &mut [u8],
+    out: &'o mut [u8],
+) -> Result<Product<'o>, Refusal> {
+    multiplied_into(face::COMMUTATOR, a.as_ref(), b.as_ref(), work, out)
+}
+
+/// The anticommutator a b + b a. Refusals and work: as [`mul`].
+///
+/// ```
+/// use fermion::{anticommutator, Record};
+/// let answer = anticommutator(&Record::build(1, [(0, 1, 1)])?, &Record::build(1, [(1, 0, 1)])?)?;
+/// assert_eq!(answer.record.to_string(), "1 {|}");
+/// # Ok::<(), fermion::Refusal>(())
+/// ```
+pub fn anticommutator(
+    a: &(impl AsRef<[u8]> + ?Sized),
+    b: &(impl AsRef<[u8]> + ?Sized),
+) -> Result<Product<'static>, Refusal> {
+    anticommutator_within(a, b, WORK_CEILING)
+}
+
+/// [`anticommutator`] with a ceiling for the work, as [`mul_within`].
+pub fn anticommutator_within(
+    a: &(impl AsRef<[u8]> + ?Sized),
+    b: &(impl AsRef<[u8]> + ?Sized),
+    ceiling: usize,
+) -> Result<Product<'static>, Refusal> {
+    multiplied(face::ANTICOMMUTATOR, a.as_ref(), b.as_ref(), ceiling)
+}
+
+/// [`anticommutator`] with work and output of the caller's, as [`mul_into`].
+pub fn anticommutator_into<'o>(
+    a: &(impl AsRef<[u8]> + ?Sized),
+    b: &(impl AsRef<[u8]> + ?Sized),
+    work: &mut [u8],
+    out: &'o mut [u8],
+) -> Result<Product<'o>, Refusal> {
+    multiplied_into(face::ANTICOMMUTATOR, a.as_ref(), b.as_ref(), work, out)
+}
+
+/// The adjoint. Refusals: 1 to 5.
+///
+/// ```
+/// use fermion::{adjoint, word, Record};
+/// let a = Record::build(2, [(word(&[0, 1]), 0, 1)])?;
+/// assert_eq!(adjoint(&a)?.to_string(), "-1 {|0,1}");
+/// # Ok::<(), fermion::Refusal>(())
+/// ```
+pub fn adjoint(a: &(impl AsRef<[u8]> + ?Sized)) -> Result<Record<'static>, Refusal> {
+    let a = a.as_ref();
+    let mut out = vec![0; a.len().min(MAX_BYTES)];
+    let length = face::adjoint(a, &mut out)?[3];
+    Ok(record_in(out, length))
+}
+
+/// [`adjoint`] with an output of the caller's, as [`add_into`].
+pub fn adjoint_into<'o>(a: &(impl AsRef<[u8]> + ?Sized), out: &'o mut [u8]) -> Result<Record<'o>, Refusal> {
+    let length = face::adjoint(a.as_ref(), out)?[3];
+    Ok(Record::written(&out[..length as usize]))
+}
+
+/// Whether the record is its own adjoint. Refusals: 1 to 5.
+///
+/// ```
+/// assert!(fermion::is_hermitian(&fermion::Record::build(2, [(1, 2, 3), (2, 1, 3)])?)?);
+/// # Ok::<(), fermion::Refusal>(())
+/// ```
+pub fn is_hermitian(a: &(impl AsRef<[u8]> + ?Sized)) -> Result<bool, Refusal> {
+    Ok(told(face::IS_HERMITIAN, a.as_ref())? == 1)
+}
+
+/// Whether every term has as many creations as annihilations. Refusals: 1 to 5.
+///
+/// ```
+/// assert!(!fermion::conserves_particle_number(&fermion::Record::build(2, [(3, 0, 1), (0, 3, 1)])?)?);
+/// # Ok::<(), fermion::Refusal>(())
+/// ```
+pub fn conserves_particle_number(a: &(impl AsRef<[u8]> + ?Sized)) -> Result<bool, Refusal> {
+    Ok(told(face::CONSERVES, a.as_ref())? == 1)
+}
+
+/// The largest rank of a term, 0 for no terms. Refusals: 1 to 5.
+///
+/// ```
+/// assert_eq!(fermion::max_n_body(&fermion::Record::build(4, [(3, 12, 1), (1, 1, 1)])?)?, 2);
+/// # Ok::<(), fermion::Refusal>(())
+/// ```
+pub fn max_n_body(a: &(impl AsRef<[u8]> + ?Sized)) -> Result<u64, Refusal> {
+    told(face::MAX_N_BODY, a.as_ref())
+}
+
+/// The word of all modes that occur in a term. Refusals: 1 to 5.
+///
+/// ```
+/// assert_eq!(fermion::active_modes(&fermion::Record::build(4, [(1, 8, 1), (2, 0, 1)])?)?, 11);
+/// # Ok::<(), fermion::Refusal>(())
+/// ```
+pub fn active_modes(a: &(impl AsRef<[u8]> + ?Sized)) -> Result<u64, Refusal> {
+    told(face::ACTIVE_MODES, a.as_ref())
+}
+
+/// The creation words of the terms with one annihilation word, as a part of the caller's own bytes.
+///
+/// The part is empty where there is no such term, and for bytes that are not a record. [`Record::creations`] reads it.
+///
+/// ```
+/// let record = fermion::Record::build(2, [(1, 2, 5), (2, 2, 7), (0, 1, 1)])?;
+/// assert_eq!(fermion::block(&record, 2), [1, 0, 0, 0, 0, 0, 0, 0, 2, 0, 0, 0, 0, 0, 0, 0]);
+/// assert!(fermion::block(b"no record", 2).is_empty());
+/// # Ok::<(), fermion::Refusal>(())
+/// ```
+pub fn block(a: &(impl AsRef<[u8]> + ?Sized), ann: u64) -> &[u8] {
+    let a = a.as_ref();
+    let [.., start, length, _] = face::block(a, ann);
+    &a[start as usize..][..length as usize]
+}
+
+/// The exact element between two occupation words. Refusals: 1 to 5, 12.
+///
+/// ```
+/// use fermion::{element, word, Record};
+/// let a = Record::build(2, [(word(&[1]), 0, 7)])?;
+/// assert_eq!(element(&a, word(&[0, 1]), word(&[0]))?, -7);
+/// # Ok::<(), fermion::Refusal>(())
+/// ```
+pub fn element(a: &(impl AsRef<[u8]> + ?Sized), bra: u64, ket: u64) -> Result<i64, Refusal> {
+    Ok(face::element(a.as_ref(), bra, ket)?[5] as i64)
+}
+
+/// The exact elements between up to 8 different words: row the bra, column the ket, 0 past the basis.
+///
+/// Refusals: 1 to 5, 14, 12.
+///
+/// ```
+/// use fermion::{mat_ortho_projected, word, Record};
+/// let a = Record::build(2, [(1, 2, 3), (2, 2, 5)])?;
+/// let matrix = mat_ortho_projected(&a, &[word(&[0]), word(&[1])])?;
+/// assert_eq!((&matrix[0][..2], &matrix[1][..2]), (&[0, 3][..], &[0, 5][..]));
+/// # Ok::<(), fermion::Refusal>(())
+/// ```
+pub fn mat_ortho_projected(
+    a: &(impl AsRef<[u8]> + ?Sized),
+    basis: &[u64],
+) -> Result<[[i64; MAX_BASIS]; MAX_BASIS], Refusal> {
+    let mut entries = [0; MAX_BASIS * MAX_BASIS];
+    face::mat_ortho_projected(a.as_ref(), basis, &mut entries)?;
+    let mut matrix = [[0; MAX_BASIS]; MAX_BASIS];
+    for (row, from) in matrix.iter_mut().zip(entries.chunks_exact(MAX_BASIS)) {
+        row.copy_from_slice(from);
+    }
+    Ok(matrix)
+}
+
+/// Whether two records are equal; if not, a bra and a ket at which their elements differ. Refusals: 1 to 6.
+///
+/// ```
+/// use fermion::{compare, Comparison, Record};
+/// let (a, b) = (Record::build(2, [(1, 2, 3)])?, Record::build(2, [(1, 2, 4)])?);
+/// assert_eq!(compare(&a, &b)?, Comparison::Different { bra: 1, ket: 2 });
+/// assert_eq!(compare(&a, &a)?, Comparison::Equal);
+/// # Ok::<(), fermion::Refusal>(())
+/// ```
+pub fn compare(a: &(impl AsRef<[u8]> + ?Sized), b: &(impl AsRef<[u8]> + ?Sized)) -> Result<Comparison, Refusal> {
+    Ok(match face::compare(a.as_ref(), b.as_ref())? {
+        [.., 1, _, _] => Comparison::Equal,
+        [.., bra, ket] => Comparison::Different { bra, ket },
+    })
+}
+
+/// The element of terms with float coefficients, added in the order given, one rounding for each that joins.
+///
+/// Entry i of every list belongs to term i. Refusals: 1, 2, 13, 12.
+///
+/// ```
+/// assert_eq!(fermion::mat_elem_real(2, &[1, 0], &[1, 0], &[0.5, 0.25], 1, 1)?, 0.75);
+/// # Ok::<(), fermion::Refusal>(())
+/// ```
+pub fn mat_elem_real(m: u64, cre: &[u64], ann: &[u64], coeff: &[f64], bra: u64, ket: u64) -> Result<f64, Refusal> {
+    face::mat_elem_real(List { m, cre, ann }, coeff, bra, ket)
+}
+
+/// The element of terms with complex coefficients, as re and im: as [`mat_elem_real`], each part by itself.
+///
+/// ```
+/// let value = fermion::mat_elem_complex(2, &[1, 0], &[1, 0], &[0.0, 0.25], &[0.5, 0.0], 1, 1)?;
+/// assert_eq!(value, (0.25, 0.5));
+/// # Ok::<(), fermion::Refusal>(())
+/// ```
+pub fn mat_elem_complex(
+    m: u64,
+    cre: &[u64],
+    ann: &[u64],
+    re: &[f64],
+    im: &[f64],
+    bra: u64,
+    ket: u64,
+) -> Result<(f64, f64), Refusal> {
+    face::mat_elem_complex(List { m, cre, ann }, re, im, bra, ket)
+}
+
+fn told(call: Reads, a: &[u8]) -> Result<u64, Refusal> {
+    Ok(call.call(a)?[5])
+}
+
+fn record_in(mut out: Vec<u8>, length: u64) -> Record<'static> {
+    out.truncate(length as usize);
+    out.shrink_to_fit();
+    Record::written(out)
+}
+
+fn summed(call: Sums, a: &[u8], b: &[u8]) -> Result<Record<'static>, Refusal> {
+    // No result has more terms than both records together, and none that is not refused more than MAX_TERMS.
+    let mut out = vec![0; a.len().saturating_add(b.len()).min(MAX_BYTES)];
+    let length = call.call(a, b, &mut out)?[3];
+    Ok(record_in(out, length))
+}
+
+fn summed_into<'o>(call: Sums, a: &[u8], b: &[u8], out: &'o mut [u8]) -> Result<Record<'o>, Refusal> {
+    let length = call.call(a, b, out)?[3];
+    Ok(Record::written(&out[..length as usize]))
+}
+
+fn multiplied(call: Multiplies, a: &[u8], b: &[u8], ceiling: usize) -> Result<Product<'static>, Refusal> {
+    growing(ceiling, |work| {
+        // No result has more terms than rows.
+        let mut out = vec![0; HEADER + ROW * MAX_TERMS.min(work.len() / ROW)];
+        let answer = call.call(a, b, work, &mut out)?;
+        Ok(Product { record: record_in(out, answer[3]), branches: answer[4] })
+    })
+}
+
+fn multiplied_into<'o>(
+    call: Multiplies,
+    a: &[u8],
+    b: &[u8],
+    work: &mut [u8],
+    out: &'o mut [u8],
+) -> Result<Product<'o>, Refusal> {
+    let answer = call.call(a, b, work, out)?;
+    Ok(Product { record: Record::written(&out[..answer[3] as usize]), branches: answer[4] })
+}
+
+/// Attempts with more and more memory, up to the ceiling, as long as 7 is given.
+fn growing<T>(ceiling: usize, attempt: impl Fn(&mut [u8]) -> Result<T, Refusal>) -> Result<T, Refusal> {
+    let mut length = FIRST_WORK.min(ceiling);
+    loop {
+        match attempt(&mut vec![0; length]) {
+            Err(refusal) if refusal.number == 7 && length < ceiling => {
+                length = length.saturating_mul(4).min(ceiling);
+            }
+            decided => return decided,
+        }
+    }
+}

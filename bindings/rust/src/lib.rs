@@ -1,0 +1,13 @@
+#![doc = include_str!("../README.md")]
+#![deny(missing_docs, unsafe_code)]
+
+mod calls;
+mod face;
+mod record;
+mod refusal;
+mod term;
+
+pub use calls::*;
+pub use record::{Record, Terms, MAX_BYTES, MAX_MODES, MAX_TERMS, MAX_WEIGHT};
+pub use refusal::Refusal;
+pub use term::{modes, word, Rows, Term};

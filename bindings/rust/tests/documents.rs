@@ -1,0 +1,47 @@
+//! The crate beside the documents of the repository.
+use std::path::Path;
+
+use fermion::{Record, Refusal};
+
+fn text(path: &str) -> String {
+    std::fs::read_to_string(Path::new(env!("CARGO_MANIFEST_DIR")).join("../..").join(path)).unwrap()
+}
+
+#[test]
+fn the_sentences_are_those_of_the_table() {
+    let text = text("docs/RECORD.md");
+    let section = text.split("\n## Refusals\n").nth(1).unwrap();
+    let mut numbers = vec![];
+    for row in section.lines().filter(|line| line.starts_with("| ")) {
+        let cells: Vec<&str> = row.split(" | ").collect();
+        if let Ok(number) = cells[0].trim_start_matches("| ").parse() {
+            assert_eq!(Refusal { number, operand: 0, place: 0 }.sentence(), cells[1]);
+            numbers.push(number);
+        }
+    }
+    assert!(numbers.iter().copied().eq(1..=14));
+    let unknown = Refusal { number: 15, operand: 0, place: 0 }.sentence();
+    assert_eq!(unknown, Refusal { number: 0, operand: 0, place: 0 }.sentence());
+}
+
+#[test]
+fn the_example_is_that_of_the_document() {
+    let text = text("docs/RECORD.md");
+    let section = text.split("\n### An example\n").nth(1).unwrap().split("\n##").next().unwrap();
+    let hex: String = section.split('`').skip(1).step_by(2).collect::<String>().replace(' ', "");
+    let bytes: Vec<u8> = (0..hex.len()).step_by(2).map(|i| u8::from_str_radix(&hex[i..i + 2], 16).unwrap()).collect();
+    assert_eq!(Record::build(2, [(1, 1, 1), (2, 2, -1)]).unwrap().as_bytes(), bytes);
+}
+
+#[test]
+fn every_function_of_the_header_is_bound() {
+    let (header, face, calls) =
+        (text("include/fermion.h"), text("bindings/rust/src/face.rs"), text("bindings/rust/src/calls.rs"));
+    let mut bound = 0;
+    for name in header.split("void fermion_").skip(1).map(|rest| rest.split('(').next().unwrap()) {
+        assert!(face.contains(&format!("fn fermion_{name}(")), "{name}");
+        assert!(calls.contains(&format!("pub fn {name}(")), "{name}");
+        bound += 1;
+    }
+    assert_eq!(face.matches("fn fermion_").count(), bound);
+}

@@ -1,0 +1,56 @@
+#!/usr/bin/env bash
+# The bindings for Rust and for Python, tested on the shared object that tools/shared_object.sh makes; on x86-64 the Rust
+# crate is linked with the archive itself as well.
+set -uo pipefail
+cd "$(dirname "$0")/.." || exit 1
+log=$(mktemp)
+trap 'rm -f "$log"' EXIT
+passed=0 failed=0
+
+tally() { # NAME PASSED FAILED STATUS: a run that ends badly and counted no failure is one
+    local bad=$3
+    [ "$4" -eq 0 ] || [ "$bad" -gt 0 ] || bad=1
+    [ "$bad" -eq 0 ] || cat "$log"
+    echo "$1: $2 passed, $bad failed"
+    passed=$((passed + $2)) failed=$((failed + bad))
+}
+
+test_rust() { # FOLDER OF THE LIBRARY, WHAT TO TEST ..
+    local folder=$1 status
+    shift
+    if ! command -v cargo >/dev/null; then
+        echo "cargo is missing, so the Rust crate cannot be tested" >"$log"
+        tally "Rust" 0 1 1
+        return
+    fi
+    FERMION_LIB_DIR=$folder cargo test --offline --locked --no-fail-fast --manifest-path bindings/rust/Cargo.toml \
+        --target-dir target/bindings-rust "$@" >"$log" 2>&1
+    status=$?
+    # shellcheck disable=SC2046 # two numbers
+    tally "Rust, $(basename "$folder")" $(awk '/^test result:/ { good += $4; bad += $6 } END { print good + 0, bad + 0 }' "$log") "$status"
+}
+
+test_python() { # LIBRARY
+    local status ran bad
+    FERMION_LIB=$1 PYTHONPATH=bindings/python python3 -m unittest discover -s bindings/python/tests >"$log" 2>&1
+    status=$?
+    ran=$(sed -n 's/^Ran \([0-9]*\) tests\{0,1\} .*/\1/p' "$log")
+    bad=$(grep '^FAILED' "$log" | grep -oE '(failures|errors)=[0-9]+' | awk -F= '{ bad += $2 } END { print bad + 0 }')
+    tally "Python" $((${ran:-0} - bad)) "$bad" "$status"
+}
+
+library=$PWD/target/native/libfermion.so
+if [ -e "$library" ] && [ -z "$(find crates crates.txt tools/shared_object.sh -newer "$library" -print -quit)" ]; then
+    echo "called from Rust and Python: the shared object that is there, newer than all that it is made from"
+elif built=$(tools/shared_object.sh "$library"); then
+    echo "called from Rust and Python: ${built##*: }"
+else
+    echo "$built"
+    echo "0 passed, 1 failed"
+    exit 1
+fi
+test_python "$library"
+test_rust "$(dirname "$library")"
+[ "$(uname -m)" != x86_64 ] || test_rust "$PWD/target/staticlib" --tests
+echo "$passed passed, $failed failed"
+[ "$failed" -eq 0 ]
