@@ -39,16 +39,14 @@ test_python() { # LIBRARY
     tally "Python" $((${ran:-0} - bad)) "$bad" "$status"
 }
 
-library=$PWD/target/native/libfermion.so
-if [ -e "$library" ] && [ -z "$(find crates crates.txt tools/shared_object.sh -newer "$library" -print -quit)" ]; then
-    echo "called from Rust and Python: the shared object that is there, newer than all that it is made from"
-elif built=$(tools/shared_object.sh "$library"); then
-    echo "called from Rust and Python: ${built##*: }"
-else
+if ! built=$(tools/shared_object.sh); then
     echo "$built"
     echo "0 passed, 1 failed"
     exit 1
 fi
+built=${built##*$'\n'} # its last line: the library, and which code it is
+echo "called from Rust and Python: ${built#*: }"
+library=${built%%: *}
 test_python "$library"
 test_rust "$(dirname "$library")"
 [ "$(uname -m)" != x86_64 ] || test_rust "$PWD/target/staticlib" --tests
