@@ -11,7 +11,7 @@ use borrow.Author.Tests.{leb-true, leb-false}
 use Rattle.modes.specs.declared.Term.{Term}
 use Rattle.modes.specs.declared.Refusal.{Refusal}
 use Rattle.modes.specs.Answers.{refusal, none}
-use Rattle.lent.specs.Outputs.{refusedOutput, filledOutput}
+use Rattle.lent.specs.Outputs.{Output, refusedOutput, filledOutput}
 use Rattle.record.specs.Terms.{before, weight}
 use Rattle.record.specs.Layout.{laidOut, encode, modesOf, countOf, termsOf}
 use Rattle.record.specs.Refusals.{orElse, inside, termRefusal, termsRefusal, refusalOf}
@@ -21,7 +21,7 @@ use Rattle.record.proofs.Refusals.{or-first}
 use Rattle.lincomb.specs.Results.{pairRefusal, resultRefusal, recordOutput}
 use Rattle.multiply.specs.Answers.{weightRefusal, workRefusal, commutatorOf}
 use Rattle.stream.specs.Lines.{refusedLine}
-use Rattle.stream.specs.Replies.{firstOf, secondOf, holdsFirst, answerTo}
+use Rattle.stream.specs.Replies.{holdsFirst, answerTo}
 use Rattle.stream.proofs.Decimals.{decimal-length}
 
 pub record Lawful (room : ℕ) (f : Refusal) : Type 0 where
@@ -133,8 +133,8 @@ module _ {room : ℕ} where
 
 pub lawful-answer : (work room : ℕ) (input : List ℕ) → Lawful room ((answerTo work room input) .answer .refusal)
 unfolding answerTo
-lawful-answer work room input = go (holdsFirst input)
+lawful-answer work room input = go (holdsFirst input) _ (lawful-commutator work _ _)
   where
-    go : (s : Bool) → Lawful room ((cond s (commutatorOf work room (firstOf input) (secondOf input)) (refusedOutput room (refusal 1 1 0))) .answer .refusal)
-    go true = lawful-commutator work (firstOf input) (secondOf input)
-    go false = plain 1 1 0 (omega arith) (omega arith) (omega arith)
+    go : (s : Bool) (o : Output) → Lawful room (o .answer .refusal) → Lawful room ((cond s o (refusedOutput room (refusal 1 1 0))) .answer .refusal)
+    go true o h = h
+    go false o h = plain 1 1 0 (omega arith) (omega arith) (omega arith)

@@ -17,12 +17,8 @@ use Rattle.stream.proofs.Decimals.{decimal-length}
 use Rattle.stream.proofs.Stores.{stored-one, stored-join, stored-inside, front-taken}
 
 -- a number of 64 bits has at most 20 digits
-pub length-field : (n end : ℕ) → length (field n end) ≡ length (decimal n) + 1
-length-field n end = length-append (decimal n) (end ∷ [])
-
-pub field-length : (n end : ℕ) → n < 2 ^ 64 → length (field n end) ≤ 21
-field-length n end h =
-    omega (arith, length-field n end, decimal-length 19 n (lt-of-lt-of-le h (lit≤ tt)))
+pub twenty : (n : ℕ) → n < 2 ^ 64 → length (decimal n) ≤ 20
+twenty n h = decimal-length 19 n (lt-of-lt-of-le h (lit≤ tt))
 
 pub field-stored : {l k : List ℕ} {o p : ℕ} (n end : ℕ) → o ≤ length l → Stored l o (decimal n) k p → p < length k → Stored l o (field n end) (set k p end) (p + 1)
 field-stored {l} {k} {o} {p} n end h f g = stored-join (decimal n) (end ∷ []) h f (stored-one k p end g)

@@ -68,11 +68,11 @@ result-shape room branches r m ts = go (eqb (r .number) 0)
 
 pub answer-shape : (work room : ℕ) (input : List ℕ) → Shape room (answerTo work room input)
 unfolding answerTo
-answer-shape work room input = go (holdsFirst input)
+answer-shape work room input = go (holdsFirst input) _ (result-shape room _ _ _ _)
   where
-    go : (s : Bool) → Shape room (cond s (commutatorOf work room (firstOf input) (secondOf input)) (refusedOutput room (refusal 1 1 0)))
-    go true = result-shape room _ _ _ _
-    go false = refusing (refusal 1 1 0)
+    go : (s : Bool) (o : Output) → Shape room o → Shape room (cond s o (refusedOutput room (refusal 1 1 0)))
+    go true o h = h
+    go false o h = refusing (refusal 1 1 0)
 
 -- the text of a record is what stands in the output
 record-says : {room : ℕ} (o : Output) → Shape room o → o .answer .refusal .number ≡ 0 → Says (textOf room o) room (o .answer .len) (o .bytes)

@@ -6,7 +6,9 @@ ghost use mathlib.Core.Path.{_≡_};
 ghost use mathlib.Core.List.{[], _∷_};
 ghost use Prim.Native.Nat.{_+_, _≤_, _<_};
 ghost use lib.ListN.{length};
+ghost use Rattle.modes.specs.Answers.{refusal};
 ghost use Rattle.lent.specs.Bytes.{put};
+ghost use Rattle.lent.specs.Outputs.{refusedOutput};
 ghost use Rattle.multiply.specs.Answers.{Leaves};
 ghost use Rattle.stream.specs.Decimal.{decimal};
 ghost use Rattle.stream.specs.Lines.{field, refusedLine, lineIn};
@@ -37,10 +39,10 @@ fn put_decimal(s: &mut [u8], at: usize, n: u64) -> usize
     put_digit(s, last, n % 10)
 }
 
-// A number and the byte after it to `at`, and where they end.
+// A number and the byte after it to `at`, and where they end: a number of 64 bits has at most 20 digits.
 fn put_field(s: &mut [u8], at: usize, n: u64, end: u8) -> usize
-    requires { ⌜ at + length (field n end) ≤ length (now s) ⌝ }
-    ensures { λ r. ⌜ Stored (now (s .entry)) at (field n end) (now (s .exit)) r ⌝ }
+    requires { ⌜ at + 21 ≤ length (now s) ⌝ }
+    ensures { λ r. ⌜ Stored (now (s .entry)) at (field n end) (now (s .exit)) r × (r ≤ at + 21) ⌝ }
 {
     let last = put_decimal(s, at, n);
     s[last] = end;
@@ -95,6 +97,19 @@ fn holds_first(input: &[u8]) -> bool
     lent::half(input, 24) <= input.len()
 }
 
+// The first record is not there: 1, operand 1.
+fn refuse_first(work: &mut [u8], out: &mut [u8]) -> Written
+    ensures { λ r. ⌜ Leaves (refusedOutput (length (now (out .entry))) (refusal 1 1 0)) r (now (out .exit)) (length (now (work .entry))) (now (work .exit)) ⌝ }
+{
+    lent::wipe(work);
+    let one = Refusal {
+        number: 1,
+        operand: 1,
+        place: 0,
+    };
+    lent::refuse(out, one)
+}
+
 // The commutator of the two records, or its refusal.
 fn answer(input: &[u8], work: &mut [u8], out: &mut [u8]) -> Written
     ensures { λ r. ⌜ Leaves (answerTo (length (now (work .entry))) (length (now (out .entry))) (now (input .entry))) r (now (out .exit)) (length (now (work .entry))) (now (work .exit)) ⌝ }
@@ -103,13 +118,7 @@ fn answer(input: &[u8], work: &mut [u8], out: &mut [u8]) -> Written
         let end = lent::half(input, 24);
         return multiply::commutator(&input[..end], &input[end..], work, out);
     }
-    lent::wipe(work);
-    let one = Refusal {
-        number: 1,
-        operand: 1,
-        place: 0,
-    };
-    lent::refuse(out, one)
+    refuse_first(work, out)
 }
 
 // The record of the commutator of the two records that the input holds one after the other, or the line of its refusal, at

@@ -5,7 +5,6 @@ use Prim.Native.Nat.{_≤_}
 use native.Mathlib.Omega.{arith}
 use lib.ListN.{length}
 use lib.Seq.{length-take-le}
-use Rattle.lent.specs.Bytes.{zeros}
 use Rattle.stream.proofs.Replies.{leaves-as, header-there, total-there, answer-parts, answer-short}
 use Rattle.stream.proofs.answer.Statement.{statement}
 use Rattle.stream.proofs.answer.Tie as tie
@@ -44,11 +43,8 @@ returns c =
     let s = c .before .before .before .before .before .before .before .before .before .before .before .before .before .before .before in
     leaves-as (answer-parts (s .args .input .now) (sym (c .before .before .before .before .before .before .before .before .before .before .before .holds-first .ensures) ∙ c .before .before .before .before .before .before .before .before .before .before .if1 .taken) (length (s .args .work .now)) (length (s .args .out .now)) _ (c .before .before .before .before .before .before .before .before .before .half .ensures .0)) (c .before .before .before .before .commutator .ensures)
 
-wipe-requires : tie.Need-wipe-requires
-wipe-requires c κs = search needs
-
-refuse-requires : tie.Need-refuse-requires
-refuse-requires c κs = search needs
+refuse-first-requires : tie.Need-refuse-first-requires
+refuse-first-requires c κs = search needs
 
 same-length-3 : tie.Need-same-length-3
 same-length-3 c = search needs
@@ -58,9 +54,8 @@ same-length-4 c = search needs
 
 returns-2 : tie.Need-returns-2
 returns-2 c =
-    let s = c .before .before .before .before .before .before .before .before .before .before .before .before .before in
-    leaves-as (answer-short (s .args .input .now) (sym (c .before .before .before .before .before .before .before .before .before .holds-first .ensures) ∙ c .before .before .before .before .before .before .before .before .if1 .left) (length (s .args .work .now)) (length (s .args .out .now)))
-    (record { output = c .before .before .refuse .ensures; clean = c .before .before .before .before .before .before .wipe .ensures })
+    let s = c .before .before .before .before .before .before .before .before .before .before .before .before in
+    leaves-as (answer-short (s .args .input .now) (sym (c .before .before .before .before .before .before .before .before .holds-first .ensures) ∙ c .before .before .before .before .before .before .before .if1 .left) (length (s .args .work .now)) (length (s .args .out .now))) (c .before .before .before .before .refuse-first .ensures)
 
 pub answer-spec : {M : Type 1} → statement M
 answer-spec =
@@ -76,8 +71,7 @@ answer-spec =
     same-length
     same-length-2
     returns
-    wipe-requires
-    refuse-requires
+    refuse-first-requires
     same-length-3
     same-length-4
     returns-2)
