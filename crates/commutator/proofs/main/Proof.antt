@@ -1,0 +1,57 @@
+-- `commutator::main` is safe and ends: what it writes stands in the output.
+use borrow.Author.Needs.{needs}
+use mathlib.Core.Path.{sym}
+use lib.Seq.{length-take-le}
+use Rattle.stream.proofs.Replies.{says-inside}
+use Rattle.commutator.proofs.main.Statement.{statement}
+use Rattle.commutator.proofs.main.Tie as tie
+
+slice-aggregate-read-full : tie.Need-slice-aggregate-read-full
+slice-aggregate-read-full c = search needs
+
+read-full-requires : tie.Need-read-full-requires
+read-full-requires c κs = search needs
+
+array-share-prefix-input : tie.Need-array-share-prefix-input
+array-share-prefix-input c = search needs
+
+slice-aggregate-commutator : tie.Need-slice-aggregate-commutator
+slice-aggregate-commutator c = search needs
+
+slice-aggregate-commutator-2 : tie.Need-slice-aggregate-commutator-2
+slice-aggregate-commutator-2 c = search needs
+
+slice-aggregate-commutator-3 : tie.Need-slice-aggregate-commutator-3
+slice-aggregate-commutator-3 c = search needs
+
+commutator-requires : tie.Need-commutator-requires
+commutator-requires c κs = search needs
+
+array-share-prefix-out : tie.Need-array-share-prefix-out
+array-share-prefix-out c = says-inside (c .before .before .commutator .ensures .says)
+
+slice-aggregate-write-all : tie.Need-slice-aggregate-write-all
+slice-aggregate-write-all c =
+    let called = c .before .before .before .commutator in sym (length-take-le (called .result) (called .last .1 .1 .0) (says-inside (called .ensures .says)))
+
+write-all-requires : tie.Need-write-all-requires
+write-all-requires c κs = search needs
+
+returns : tie.Need-returns
+returns c = search needs
+
+pub main-spec : {M : Type 1} → statement M
+main-spec =
+    tie.close
+    (tie.spec
+    slice-aggregate-read-full
+    read-full-requires
+    array-share-prefix-input
+    slice-aggregate-commutator
+    slice-aggregate-commutator-2
+    slice-aggregate-commutator-3
+    commutator-requires
+    array-share-prefix-out
+    slice-aggregate-write-all
+    write-all-requires
+    returns)

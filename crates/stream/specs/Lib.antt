@@ -1,0 +1,5 @@
+pub mod Decimal
+pub mod Lines
+pub mod Replies
+pub mod Stores
+pub mod Told
