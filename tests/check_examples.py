@@ -1,5 +1,5 @@
 #!/usr/bin/env python3
-"""Every example runs to its end with status 0."""
+"""Every example runs to its end with status 0, with a record that ships on its standard input."""
 import glob
 import os
 import subprocess
@@ -11,7 +11,8 @@ ROOT = os.path.dirname(os.path.dirname(os.path.abspath(__file__)))
 def main():
     examples, failed = sorted(glob.glob(os.path.join(ROOT, "examples", "*.py"))), 0
     for example in examples:
-        run = subprocess.run([sys.executable, example], capture_output=True, text=True)
+        with open(os.path.join(ROOT, "examples", "hop.record"), "rb") as record:
+            run = subprocess.run([sys.executable, example], stdin=record, capture_output=True, text=True)
         failed += run.returncode != 0
         print(f"{os.path.relpath(example, ROOT)}: {'ok' if run.returncode == 0 else f'status {run.returncode}'}")
         print("".join(f"  {line}\n" for line in (run.stdout + run.stderr).splitlines()), end="")
