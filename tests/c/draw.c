@@ -4,7 +4,7 @@
 
 static uint64_t state = 20261115;
 
-/* xorshift64*: seeded, the same on every machine */
+/* xorshift64*: seeded, and the same on every machine as long as no expression draws twice in an order left open by C */
 uint64_t next(void)
 {
     state ^= state >> 12;
@@ -15,7 +15,7 @@ uint64_t next(void)
 
 uint64_t below(uint64_t n)
 {
-    return (next() >> 16) % n;
+    return next() % n;
 }
 
 bool one_in(uint64_t n)
@@ -119,8 +119,10 @@ void draw_many(struct terms *to, unsigned m, size_t n)
     to->m = m;
     to->n = 0;
     while (to->n < n) {
-        for (size_t left = n - to->n; left > 0; left--)
-            put(to, next() & all_modes(m), next() & all_modes(m), one_in(2) ? 1 : -1);
+        for (size_t left = n - to->n; left > 0; left--) {
+            uint64_t ann = next() & all_modes(m), cre = next() & all_modes(m);
+            put(to, ann, cre, one_in(2) ? 1 : -1);
+        }
         join(to);
     }
 }
@@ -153,11 +155,11 @@ size_t near_length(size_t right)
 /* a header field with another number */
 static void damage_field(struct record *r)
 {
-    uint8_t *field = r->bytes + 4 * below(8);
+    uint8_t *field = r->bytes + 4 * below(8), *byte = field + below(4);
     if (one_in(2))
-        field[below(4)] ^= (uint8_t)(1 + below(255));
+        *byte ^= (uint8_t)(1 + below(255));
     else
-        field[0] += one_in(2) ? 1 : 255;
+        *field += one_in(2) ? 1 : 255;
 }
 
 static void damage_length(struct record *r)
@@ -166,7 +168,7 @@ static void damage_length(struct record *r)
     r->len = lengths[below(6)];
 }
 
-/* one entry of a term: a mode outside, the words of the term before or of the one after, no coefficient or a heavy one */
+/* one entry of a term: a mode outside, words of the term before it or of any, no coefficient or a heavy one */
 static void damage_term(struct terms *t)
 {
     static const int64_t heavy[] = {INT64_C(1) << 60, -(INT64_C(1) << 60), INT64_MAX, INT64_MIN};

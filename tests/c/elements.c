@@ -8,7 +8,8 @@ static struct terms s, t;
 static struct answer judge_element(const struct record *r, uint64_t bra, uint64_t ket)
 {
     struct answer right = plain_element(bytes_of(r), bra, ket);
-    fermion_element(show(&shown[0], r->bytes, r->len), r->len, bra, ket, lend_answer());
+    const uint8_t *at = show(&shown[0], r->bytes, r->len);
+    fermion_element(at, r->len, bra, ket, lend_answer());
     judge(ELEMENT, &right, holds(&shown[0]));
     return right;
 }
@@ -116,10 +117,11 @@ static size_t draw_basis(uint64_t basis[10])
             for (size_t j = 0; j < i; j++)
                 fresh = fresh && basis[j] != basis[i];
         }
+    size_t i = n > 0 ? below(n) : 0, j = n > 0 ? below(n) : 0;
     if (n > 0 && one_in(12))
-        basis[below(n)] = draw_word_off(s.m);
-    if (n > 1 && one_in(12))
-        basis[below(n)] = basis[below(n)];
+        basis[i] = draw_word_off(s.m);
+    if (n > 0 && one_in(12))
+        basis[j] = basis[0];
     return n;
 }
 

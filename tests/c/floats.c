@@ -104,15 +104,17 @@ static void spoil(void)
 {
     static const uint64_t counts[] = {0, 65, 256, UINT64_C(1) << 32, UINT64_MAX};
     uint64_t kind = below(6);
-    size_t n = f.cre_len, *lengths[] = {&f.cre_len, &f.ann_len, &f.part_len[0], &f.part_len[1]};
+    size_t *lengths[] = {&f.cre_len, &f.ann_len, &f.part_len[0], &f.part_len[1]}, *length = lengths[below(4)];
+    size_t n = f.cre_len, at = n > 0 ? below(n) : 0;
+    uint64_t *word = one_in(2) ? &cre[at] : &ann[at];
     if (kind == 0)
         f.m = counts[below(5)];
     if (kind == 1)
-        *lengths[below(4)] += one_in(2) || n == 0 ? 1 : SIZE_MAX;
+        *length += one_in(2) || n == 0 ? 1 : SIZE_MAX;
     if (kind == 2 && n > 0)
-        *(one_in(2) ? &cre[below(n)] : &ann[below(n)]) = draw_word_off((unsigned)f.m);
+        *word = draw_word_off((unsigned)f.m);
     if (kind == 3 && n > 0)
-        put_not_finite(&part[below(f.parts)][below(n)]);
+        put_not_finite(&part[below(f.parts)][at]);
     if (kind == 4)
         f.bra = draw_word_off((unsigned)f.m);
     if (kind == 5)
@@ -190,7 +192,7 @@ static void check_order(void)
         }
 }
 
-/* a running sum that isn't finite, made so at each place and in each part, also where a later term would bring it back */
+/* a running sum made not finite at each place and in each part, also where a later term would bring it back */
 static void check_overflow(void)
 {
     /* half of the last place of the largest number, which rounds up when added, and the next below, which does not */

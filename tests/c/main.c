@@ -1,11 +1,12 @@
-/* The C face from C: every function of fermion.h on drawn and on boundary inputs against the plain implementation, and on
- * examples that are worked out by hand. */
+/* The C face from C: every function of fermion.h on drawn and on boundary inputs against the plain implementation, and
+ * on examples that are worked out by hand. */
 #include "test.h"
 #include <stdio.h>
 
 int main(void)
 {
     int passed = 0, failed = 0;
+    check_self(&passed, &failed);
     check_examples(&passed, &failed);
     check_single();
     check_reads();

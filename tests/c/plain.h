@@ -58,8 +58,8 @@ size_t encode(uint8_t *to, const struct terms *t);
 struct answer refused(uint64_t number, uint64_t operand, uint64_t place);
 bool accepted(struct answer *why_not, struct bytes record, uint64_t operand, struct terms *to);
 
-/* answers.c: the answer of each call. `out` and `matrix` are what the call must leave where it is not refused: n[3] bytes
- * of output, all of the matrix; every other byte lent is then zero. */
+/* answers.c: the answer of each call. `out` and `matrix` are what the call must leave: n[3] bytes of output and the
+ * whole matrix; every other byte that is lent is then zero. */
 
 struct answer plain_apply(uint64_t cre, uint64_t ann, uint64_t ket);
 struct answer plain_mul_cmpnts(const struct term *l, const struct term *r, size_t room, uint8_t *out);

@@ -14,7 +14,8 @@ static const struct {
     [MUL] = {fermion_mul, 0}, [COMMUTATOR] = {fermion_commutator, -1}, [ANTICOMMUTATOR] = {fermion_anticommutator, 1}};
 
 /* x and y may be the same memory */
-static struct answer judge_product(enum face f, const struct record *x, const struct record *y, size_t rows, size_t room)
+static struct answer judge_product(enum face f, const struct record *x, const struct record *y, size_t rows,
+                                   size_t room)
 {
     struct answer right = plain_product(bytes_of(x), bytes_of(y), products[f].other_order, rows, room, written);
     const uint8_t *at_x = show(&shown[0], x->bytes, x->len), *at_y = x == y ? at_x : show(&shown[1], y->bytes, y->len);
@@ -26,7 +27,8 @@ static struct answer judge_product(enum face f, const struct record *x, const st
     return right;
 }
 
-static void demand(enum face f, const struct record *x, const struct record *y, size_t rows, size_t room, uint64_t number)
+static void demand(enum face f, const struct record *x, const struct record *y, size_t rows, size_t room,
+                   uint64_t number)
 {
     struct answer right = judge_product(f, x, y, rows, room);
     require(f, &right, number, 0, 0);
@@ -38,11 +40,12 @@ static void demand_all(const struct record *x, const struct record *y, size_t ro
         demand(f, x, y, rows, room, number);
 }
 
-/* lengths that are right, a byte or a row short, and longer */
+/* lengths that are right, a byte or a row short, and longer; ample work where the result itself is refused */
 static void judge_near(enum face f, const struct record *x, const struct record *y)
 {
     struct answer needed = plain_product(bytes_of(x), bytes_of(y), products[f].other_order, MOST, ROOM, written);
-    judge_product(f, x, y, near_length(ROW * needed.n[4]), near_length(needed.n[3]));
+    size_t rows = needed.n[0] > 8 ? MOST : near_length(ROW * needed.n[4]), room = near_length(needed.n[3]);
+    judge_product(f, x, y, rows, room);
 }
 
 /* a boundary record as first and as second of two, before anything of the product */
@@ -77,6 +80,19 @@ static wide parts(const struct terms *x, const struct terms *y)
     return sum;
 }
 
+/* coefficients that weigh about 2^30, or exactly, so that two such operators are at the ends of 8 and 9 */
+static void load(struct terms *x)
+{
+    wide left = (wide)1 << 30, factor = x->n > 0 ? left / weight(x) : 0;
+    if (factor == 0)
+        return;
+    for (size_t i = 0; i < x->n; i++)
+        x->at[i].c *= factor;
+    left -= weight(x);
+    if (one_in(2))
+        x->at[0].c += x->at[0].c < 0 ? -left : left;
+}
+
 /* two operators that are not too large to multiply by hand; the second is often the first's adjoint or shares terms */
 static void draw_pair(void)
 {
@@ -98,6 +114,10 @@ static void check_drawn(void)
 {
     for (long i = 0; i < CASES; i++) {
         draw_pair();
+        if (one_in(8)) {
+            load(&s);
+            load(&t);
+        }
         write_record(&a, &s);
         write_record(&b, &t);
         if (one_in(12))
@@ -238,6 +258,24 @@ static void check_full(void)
     }
 }
 
+/* {0|} - {|0} and n terms on the other modes: results of about 2,048 terms, in one order or after cancelling */
+static void check_many(void)
+{
+    for (int i = 0; i < 10; i++)
+        for (enum face f = MUL; f <= ANTICOMMUTATOR; f++) {
+            draw_many(&s, 63, f == MUL ? MAX_TERMS / 2 + below(2) : MAX_TERMS);
+            for (size_t j = 0; j < s.n; j++) {
+                s.at[j].ann <<= 1;
+                s.at[j].cre <<= 1;
+            }
+            write_record(&a, &s);
+            one_term(&b, 1, 0, 1);
+            put(&t, 1, 0, -1);
+            write_record(&b, &t);
+            judge_near(f, i % 2 ? &a : &b, i % 2 ? &b : &a);
+        }
+}
+
 /* n words of all modes without 64 - k, each of which has 2^k rows with {0..63|} */
 static void huge_factor(unsigned k, size_t n)
 {
@@ -309,6 +347,7 @@ void check_products(void)
     check_result_weights();
     check_sizes();
     check_full();
+    check_many();
     check_huge();
     check_empty();
     check_cancelling();

@@ -18,7 +18,8 @@ static struct lent shown;
 static struct answer judge_one(size_t k, const struct record *r)
 {
     struct answer right = ones[k].plain(bytes_of(r));
-    ones[k].call(show(&shown, r->bytes, r->len), r->len, lend_answer());
+    const uint8_t *at = show(&shown, r->bytes, r->len);
+    ones[k].call(at, r->len, lend_answer());
     judge(ones[k].f, &right, holds(&shown));
     return right;
 }
@@ -26,7 +27,8 @@ static struct answer judge_one(size_t k, const struct record *r)
 static void judge_block(const struct record *r, uint64_t ann)
 {
     struct answer right = plain_block(bytes_of(r), ann);
-    fermion_block(show(&shown, r->bytes, r->len), r->len, ann, lend_answer());
+    const uint8_t *at = show(&shown, r->bytes, r->len);
+    fermion_block(at, r->len, ann, lend_answer());
     judge(BLOCK, &right, holds(&shown));
 }
 
@@ -46,7 +48,8 @@ static uint64_t asked_word(const struct terms *t)
 {
     if (t->n == 0 || one_in(8))
         return one_in(2) ? draw_word(t->m) : draw_word_off(t->m);
-    return t->at[below(t->n)].ann + (one_in(4) ? one_in(2) ? 1 : UINT64_MAX : 0);
+    uint64_t ann = t->at[below(t->n)].ann;
+    return one_in(4) ? ann + (one_in(2) ? 1 : UINT64_MAX) : ann;
 }
 
 /* few annihilation words, so that stretches are long; otherwise terms of any kind, Hermitian in one of three */

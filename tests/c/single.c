@@ -14,7 +14,7 @@ static void check_apply(void)
 {
     for (uint64_t code = 0; code < 512; code++) /* all on three modes */
         judge_apply(code & 7, code >> 3 & 7, code >> 6);
-    for (long i = 0; i < 10 * CASES; i++) {
+    for (long i = 0; i < 5 * CASES; i++) {
         unsigned m = 1 + (unsigned)below(64);
         uint64_t cre = draw_word(m), ann = draw_word(m), ket = draw_word(m);
         if (!one_in(4)) /* most terms act on their ket */
@@ -46,8 +46,10 @@ static void part(const struct term *l, struct term *r, unsigned most)
 /* words on m modes; in most draws the modes that would empty the product are taken out */
 static void draw_factors(struct term *l, struct term *r, unsigned m)
 {
-    *l = (struct term){draw_word(m), draw_word(m), 1};
-    *r = (struct term){draw_word(m), draw_word(m), 1};
+    l->ann = draw_word(m);
+    l->cre = draw_word(m);
+    r->ann = draw_word(m);
+    r->cre = draw_word(m);
     part(l, r, one_in(50) ? 9 : (unsigned)below(5));
     if (!one_in(4)) {
         r->cre &= ~(l->cre & ~l->ann);

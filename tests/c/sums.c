@@ -140,7 +140,8 @@ static void one_term(struct record *to, uint64_t ann, int64_t c)
 static void check_weights(void)
 {
     const int64_t top = INT64_C(1) << 60;
-    const int64_t half = top / 2, pairs[][2] = {{top - 1, 1}, {top, 1}, {half, half}, {half, half + 1}, {top, top}, {top, -1}};
+    const int64_t half = top / 2;
+    const int64_t pairs[][2] = {{top - 1, 1}, {top, 1}, {half, half}, {half, half + 1}, {top, top}, {top, -1}};
     for (int i = 0; i < 6; i++) {
         bool fits = i % 2 == 0 && i < 4;
         one_term(&a, 1, pairs[i][0]);

@@ -13,30 +13,31 @@ enum { NUMBERS = 15, OPERANDS = 5 };
 static const struct {
     const char *name;
     unsigned can[OPERANDS];
+    bool yes_or_no; /* [5] may be 0 or not: Zero or applied, no or yes, nothing or something */
 } face[FUNCTIONS] = {
-    [APPLY] = {"fermion_apply", {N(0)}},
-    [MUL_CMPNTS] = {"fermion_mul_cmpnts", {N(0) | N(7)}},
-    [CHECK] = {"fermion_check", ONE},
-    [ADD] = {"fermion_add", {N(0) | RESULT, RECORD, RECORD}},
-    [SUB] = {"fermion_sub", {N(0) | RESULT, RECORD, RECORD}},
-    [MUL] = {"fermion_mul", {N(0) | RESULT | N(7) | N(8), RECORD, RECORD}},
-    [COMMUTATOR] = {"fermion_commutator", {N(0) | RESULT | N(7) | N(8), RECORD, RECORD}},
-    [ANTICOMMUTATOR] = {"fermion_anticommutator", {N(0) | RESULT | N(7) | N(8), RECORD, RECORD}},
-    [ADJOINT] = {"fermion_adjoint", {N(0) | N(11), RECORD}},
-    [IS_HERMITIAN] = {"fermion_is_hermitian", ONE},
-    [CONSERVES] = {"fermion_conserves_particle_number", ONE},
-    [MAX_N_BODY] = {"fermion_max_n_body", ONE},
-    [ACTIVE_MODES] = {"fermion_active_modes", ONE},
-    [BLOCK] = {"fermion_block", {N(0)}},
-    [ELEMENT] = {"fermion_element", {N(0), RECORD, 0, N(12), N(12)}},
-    [MATRIX] = {"fermion_mat_ortho_projected", {N(0), RECORD, 0, N(12) | N(14)}},
-    [COMPARE] = {"fermion_compare", {N(0) | N(6), RECORD, RECORD}},
-    [MAT_ELEM_REAL] = {"fermion_mat_elem_real", LISTS},
-    [MAT_ELEM_COMPLEX] = {"fermion_mat_elem_complex", LISTS},
+    [APPLY] = {"fermion_apply", {N(0)}, true},
+    [MUL_CMPNTS] = {"fermion_mul_cmpnts", {N(0) | N(7)}, false},
+    [CHECK] = {"fermion_check", ONE, false},
+    [ADD] = {"fermion_add", {N(0) | RESULT, RECORD, RECORD}, false},
+    [SUB] = {"fermion_sub", {N(0) | RESULT, RECORD, RECORD}, false},
+    [MUL] = {"fermion_mul", {N(0) | RESULT | N(7) | N(8), RECORD, RECORD}, false},
+    [COMMUTATOR] = {"fermion_commutator", {N(0) | RESULT | N(7) | N(8), RECORD, RECORD}, false},
+    [ANTICOMMUTATOR] = {"fermion_anticommutator", {N(0) | RESULT | N(7) | N(8), RECORD, RECORD}, false},
+    [ADJOINT] = {"fermion_adjoint", {N(0) | N(11), RECORD}, false},
+    [IS_HERMITIAN] = {"fermion_is_hermitian", ONE, true},
+    [CONSERVES] = {"fermion_conserves_particle_number", ONE, true},
+    [MAX_N_BODY] = {"fermion_max_n_body", ONE, true},
+    [ACTIVE_MODES] = {"fermion_active_modes", ONE, true},
+    [BLOCK] = {"fermion_block", {N(0)}, true},
+    [ELEMENT] = {"fermion_element", {N(0), RECORD, 0, N(12), N(12)}, true},
+    [MATRIX] = {"fermion_mat_ortho_projected", {N(0), RECORD, 0, N(12) | N(14)}, false},
+    [COMPARE] = {"fermion_compare", {N(0) | N(6), RECORD, RECORD}, true},
+    [MAT_ELEM_REAL] = {"fermion_mat_elem_real", LISTS, false},
+    [MAT_ELEM_COMPLEX] = {"fermion_mat_elem_complex", LISTS, false},
 };
 
 static struct {
-    long compared, differ, met[OPERANDS][NUMBERS];
+    long compared, differ, met[OPERANDS][NUMBERS], value[2]; /* answers not refused whose [5] is 0, and others */
 } tally[FUNCTIONS];
 
 static struct lent numbers; /* the answer of the call at hand */
@@ -73,8 +74,10 @@ void judge(enum face f, const struct answer *right, bool rest_is_right)
         fault(f, "another answer");
     else if (!rest_is_right)
         fault(f, "a buffer, a guard or what is only read was left otherwise");
-    else if (right->n[0] < NUMBERS && right->n[1] < OPERANDS)
+    else {
         tally[f].met[right->n[1]][right->n[0]]++;
+        tally[f].value[right->n[5] != 0] += right->n[0] == 0;
+    }
 }
 
 /* A boundary input must come to what it was made for, so that it cannot miss its boundary unseen. */
@@ -141,12 +144,16 @@ static void print_tables(void)
     for (int f = 0; f < FUNCTIONS; f++)
         if (face[f].can[4])
             print_row(f, 12, 12, 4);
+    printf("of those not refused, by answer[5]:\n%-34s%8s%8s\n", "", "0", "not 0");
+    for (int f = 0; f < FUNCTIONS; f++)
+        if (face[f].yes_or_no)
+            printf("%-34s%8ld%8ld\n", face[f].name, tally[f].value[0], tally[f].value[1]);
 }
 
-/* every number that can occur was met at its operand, and no other */
+/* every number that can occur was met at its operand, and no other; and not always the same answer */
 static bool all_met(int f)
 {
-    bool right = true;
+    bool right = !face[f].yes_or_no || (tally[f].value[0] > 0 && tally[f].value[1] > 0);
     for (int operand = 0; operand < OPERANDS; operand++)
         for (int number = 0; number < NUMBERS; number++)
             right = right && (tally[f].met[operand][number] > 0) == ((face[f].can[operand] & N(number)) != 0);

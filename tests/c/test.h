@@ -4,7 +4,7 @@
 #include "fermion.h"
 #include "plain.h"
 
-enum { CASES = 10000 }; /* drawn for each function, besides its boundary inputs */
+enum { CASES = 20000 }; /* drawn for each function, besides its boundary inputs */
 
 /* the shapes that several functions have */
 
@@ -74,6 +74,7 @@ void each_boundary(visit *v);
 /* the groups */
 
 void check_examples(int *passed, int *failed);
+void check_self(int *passed, int *failed);
 void check_single(void);
 void check_reads(void);
 void check_sums(void);
