@@ -1,6 +1,7 @@
 #!/usr/bin/env bash
-# The functions of the C face, called from C through include/fermion.h. On x86-64 the test is linked with the archive
-# itself, elsewhere with the shared object that tools/shared_object.sh compiles for the machine.
+# The functions of the C face, called from C through include/fermion.h and compared with the plain implementation in
+# tests/c. On x86-64 the test is linked with the archive itself, elsewhere with the shared object that
+# tools/shared_object.sh compiles for the machine.
 set -euo pipefail
 cd "$(dirname "$0")/.."
 work=$(mktemp -d)
@@ -13,5 +14,5 @@ else
     code=${built%%: *}
     echo "called from C: ${built##*: }"
 fi
-gcc -std=c11 -O2 -Wall -Wextra -Werror -Iinclude tests/face.c "$code" -o "$work/face"
+gcc -std=c11 -O2 -Wall -Wextra -Werror -Iinclude tests/c/*.c "$code" -o "$work/face"
 "$work/face"

@@ -1,55 +1,8 @@
-/* The C face from C: `fermion_apply` against a plain implementation that works ladder by ladder, and every other function
- * on the specification's example or on a few terms, with answers that are worked out by hand. */
-#include "fermion.h"
-#include <stdbool.h>
+/* Every function but `fermion_apply` on the specification's example or on a few terms, with answers that are worked out
+ * by hand. */
+#include "test.h"
 #include <stdio.h>
 #include <string.h>
-
-static uint64_t state = 20261115;
-
-/* xorshift64*: seeded, the same on every machine */
-static uint64_t next(void)
-{
-    state ^= state >> 12;
-    state ^= state << 25;
-    state ^= state >> 27;
-    return state * UINT64_C(2685821657736338717);
-}
-
-static bool occupied(uint64_t word, int p)
-{
-    return word >> p & 1;
-}
-
-struct outcome {
-    bool applied, minus;
-    uint64_t word;
-};
-
-/* one ladder: creating needs the mode empty, annihilating occupied; a flip for each occupied mode below */
-static void ladder(struct outcome *o, bool creates, int p)
-{
-    if (!o->applied || occupied(o->word, p) == creates) {
-        *o = (struct outcome){0};
-        return;
-    }
-    for (int q = 0; q < p; q++)
-        o->minus ^= occupied(o->word, q);
-    o->word ^= UINT64_C(1) << p;
-}
-
-/* the rightmost operator first: annihilations from the highest mode down, then creations from the highest mode down */
-static struct outcome apply(uint64_t cre, uint64_t ann, uint64_t ket)
-{
-    struct outcome o = {true, false, ket};
-    for (int p = 63; p >= 0; p--)
-        if (occupied(ann, p))
-            ladder(&o, false, p);
-    for (int p = 63; p >= 0; p--)
-        if (occupied(cre, p))
-            ladder(&o, true, p);
-    return o;
-}
 
 /* comparisons of one function: one test, passed if none differs */
 struct tally {
@@ -69,47 +22,6 @@ struct guarded {
     uint64_t before, answer[8], after;
 };
 
-static void check_apply(struct tally *t, uint64_t cre, uint64_t ann, uint64_t ket)
-{
-    struct guarded got, expected;
-    for (size_t i = 0; i < sizeof got / 8; i++)
-        ((uint64_t *)&got)[i] = next();
-    struct outcome o = apply(cre, ann, ket);
-    expected = got;
-    memset(expected.answer, 0, sizeof expected.answer);
-    if (o.applied) {
-        expected.answer[5] = 1;
-        expected.answer[6] = o.word;
-        expected.answer[7] = o.minus;
-    }
-    fermion_apply(cre, ann, ket, got.answer);
-    compare(t, &got, &expected, sizeof got);
-}
-
-/* a word of m modes, sparse or dense */
-static uint64_t word(int m)
-{
-    uint64_t w = next(), kind = next() % 3;
-    if (kind == 0)
-        w &= next() & next();
-    if (kind == 1)
-        w &= next();
-    return m == 64 ? w : w & ((UINT64_C(1) << m) - 1);
-}
-
-static struct tally check_applies(void)
-{
-    struct tally t = {"fermion_apply", 0, 0};
-    for (long i = 0; i < 100000; i++) {
-        int m = 1 + (int)(next() % 64);
-        uint64_t cre = word(m), ann = word(m), ket = word(m);
-        if (next() % 4) /* most terms act on their ket */
-            ket = (ket | ann) & ~(cre & ~ann);
-        check_apply(&t, cre, ann, ket);
-    }
-    return t;
-}
-
 /* The specification's example: {0|0} - {1|1} on two modes. */
 static const uint8_t example[80] = {
     1, 0, 0, 0, 2, 0, 0, 0, 2, 0, 0, 0, 32, 0, 0, 0, 48, 0, 0, 0, 64, 0, 0, 0, 80, 0, 0, 0, 0, 0, 0, 0,
@@ -121,7 +33,7 @@ static const uint8_t none[32] = {1, 0, 0, 0, 2, 0, 0, 0, 0, 0, 0, 0, 32, 0, 0, 0
 static const uint8_t other[32] = {1, 0, 0, 0, 3, 0, 0, 0, 0, 0, 0, 0, 32, 0, 0, 0, 32, 0, 0, 0, 32, 0, 0, 0, 32};
 
 /* an output between guards, full of garbage before the call */
-struct lent {
+struct room {
     uint8_t before[16], out[128], after[16];
 };
 
@@ -160,7 +72,7 @@ static struct tally check_test(const char *name, test_of *f, uint64_t x, uint64_
     return t;
 }
 
-static struct tally check_block(void)
+static struct tally check_stretches(void)
 {
     struct tally t = {"fermion_block", 0, 0};
     const uint64_t expected[][3] = {{1, 48, 8}, {2, 56, 8}, {0, 0, 0}, {3, 0, 0}, {4, 0, 0}};
@@ -248,7 +160,7 @@ static struct tally check_compare(void)
 
 /* what one call that fills an output must leave: len bytes, then zeros as far as room, then garbage as it was */
 struct left {
-    struct lent lent;
+    struct room lent;
     struct guarded answer;
 };
 
@@ -269,9 +181,6 @@ static struct left expected_left(struct left l, size_t room, const uint8_t *byte
     return l;
 }
 
-typedef void sum_of(const uint8_t *a, size_t a_len, const uint8_t *b, size_t b_len, uint8_t *out, size_t out_len,
-                    uint64_t answer[8]);
-
 static void check_sum(struct tally *t, sum_of *f, const uint8_t *b, size_t b_len, size_t room, const uint8_t *bytes,
                       struct guarded answer)
 {
@@ -281,7 +190,7 @@ static void check_sum(struct tally *t, sum_of *f, const uint8_t *b, size_t b_len
 }
 
 /* the example and itself give `doubled`; with no terms it stays; then 1 of the second, 6 and 11 */
-static struct tally check_sums(const char *name, sum_of *f, const uint8_t *doubled, size_t len)
+static struct tally check_combined(const char *name, sum_of *f, const uint8_t *doubled, size_t len)
 {
     struct tally t = {name, 0, 0};
     check_sum(&t, f, example, 80, 100, doubled, answer_of(0, 0, len, 0, 0, 0, 0));
@@ -298,7 +207,7 @@ static struct tally check_add(void)
     memcpy(doubled, example, 80);
     doubled[64] = 2;   /* 1 + 1 */
     doubled[72] = 254; /* -1 - 1 */
-    return check_sums("fermion_add", fermion_add, doubled, 80);
+    return check_combined("fermion_add", fermion_add, doubled, 80);
 }
 
 /* the example is its own adjoint, and {1|0} is the adjoint of {0|1} */
@@ -343,9 +252,6 @@ static size_t record_of(uint8_t *to, size_t n, const int8_t terms[][3])
     return 32 + 24 * n;
 }
 
-typedef void product_of(const uint8_t *a, size_t a_len, const uint8_t *b, size_t b_len, uint8_t *work, size_t work_len,
-                        uint8_t *out, size_t out_len, uint64_t answer[8]);
-
 /* {0|1} and {1|0}: work and output exactly right and to spare, then 7, 11, 1 of each record and 6 */
 static struct tally check_product(const char *name, product_of *f, uint64_t branches, size_t n, const int8_t terms[][3])
 {
@@ -367,7 +273,7 @@ static struct tally check_product(const char *name, product_of *f, uint64_t bran
     };
     for (size_t i = 0; i < sizeof calls / sizeof calls[0]; i++) {
         struct left got = before_call(), work = before_call(), expected = expected_left(got, calls[i].room, right, calls[i].answer);
-        struct lent clean = work.lent;
+        struct room clean = work.lent;
         memset(clean.out, 0, calls[i].work);
         f(a, calls[i].a_len, calls[i].b, calls[i].b_len, work.lent.out, calls[i].work, got.lent.out, calls[i].room, got.answer.answer);
         compare(&t, &got, &expected, sizeof got);
@@ -454,14 +360,13 @@ static struct tally check_mat_elem(const char *name, bool complex)
     return t;
 }
 
-int main(void)
+void check_examples(int *passed, int *failed)
 {
     struct tally all[] = {
-        check_applies(),
         check_mul_cmpnts(),
         check_test("fermion_check", fermion_check, 2, 2, 2),
         check_add(),
-        check_sums("fermion_sub", fermion_sub, none, 32),
+        check_combined("fermion_sub", fermion_sub, none, 32),
         check_mul(),
         check_commutator(),
         check_anticommutator(),
@@ -470,18 +375,15 @@ int main(void)
         check_test("fermion_conserves_particle_number", fermion_conserves_particle_number, 1, 0, 0),
         check_test("fermion_max_n_body", fermion_max_n_body, 1, 0, 0),
         check_test("fermion_active_modes", fermion_active_modes, 3, 0, 0),
-        check_block(),
+        check_stretches(),
         check_element(),
         check_mat_elem("fermion_mat_elem_real", false),
         check_mat_elem("fermion_mat_elem_complex", true),
         check_matrix(),
         check_compare(),
     };
-    int passed = 0, failed = 0;
     for (size_t i = 0; i < sizeof all / sizeof all[0]; i++) {
-        printf("%s: %ld compared, %ld differ\n", all[i].name, all[i].compared, all[i].differ);
-        all[i].differ ? failed++ : passed++;
+        printf("%s, by hand: %ld compared, %ld differ\n", all[i].name, all[i].compared, all[i].differ);
+        all[i].differ ? ++*failed : ++*passed;
     }
-    printf("%d passed, %d failed\n", passed, failed);
-    return failed != 0;
 }
