@@ -1,11 +1,11 @@
 -- The line of a refusal: its length, and the stores that make it.
 use mathlib.Core.Path.{_≡_, refl, ap, ap₂, _∙_}
 use mathlib.Core.List.{List, [], _∷_, _++_}
-use Prim.Native.Nat.{ℕ, _+_, _-_, _*_, _^_, _≤_, _<_}
+use Prim.Native.Nat.{ℕ, _+_, _-_, _^_, _≤_, _<_}
 use native.Mathlib.Omega.{arith}
 use native.Mathlib.Nat.{lt-of-lt-of-le, sub-zero}
 use lib.Dec.{lit≤}
-use lib.ListN.{length, take, set, length-append}
+use lib.ListN.{length, take, set}
 use borrow.Author.Tests.{le-leb, lt-leb}
 use Rattle.modes.specs.declared.Refusal.{Refusal}
 use Rattle.lent.specs.Bytes.{put, zeros}

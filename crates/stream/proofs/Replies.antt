@@ -1,6 +1,6 @@
 -- The answer to an input, case by case.
 use mathlib.Core.Path.{_≡_, refl, sym, ap, _∙_, subst}
-use mathlib.Core.Bool.{Bool, true, false, cond, _&&_, and-false}
+use mathlib.Core.Bool.{Bool, true, false, cond}
 use mathlib.Core.List.{List}
 use Prim.Native.Nat.{ℕ, _-_, _≤_, _<_}
 use native.Mathlib.Omega.{arith}
@@ -19,7 +19,7 @@ use Rattle.lent.specs.Outputs.{Output, refusedOutput, filledOutput}
 use Rattle.record.specs.Layout.{encode}
 use Rattle.lincomb.specs.Results.{recordOutput}
 use Rattle.multiply.specs.Answers.{commutatorOf, Leaves}
-use Rattle.stream.specs.Replies.{totalOf, firstOf, secondOf, holdsFirst, answerTo, textOf, Says, Replies}
+use Rattle.stream.specs.Replies.{totalOf, holdsFirst, answerTo, textOf, Says, Replies}
 use Rattle.stream.specs.Lines.{lineIn}
 
 pub leaves-as : {o q : Output} {r : Written} {x : List ℕ} {room : ℕ} {w : List ℕ} → o ≡ q → Leaves o r x room w → Leaves q r x room w

@@ -29,7 +29,7 @@ use Rattle.stream.specs.Lines.{refusedLine, lineIn}
 use Rattle.stream.specs.Replies.{totalOf, firstOf, secondOf, holdsFirst, answerTo, textOf, replyTo, Replies}
 use Rattle.stream.specs.Told.{Commutator, Told, line, result}
 use Rattle.stream.proofs.Replies.{total-decides}
-use Rattle.stream.proofs.Bounds.{Lawful, lawful-line, lawful-answer}
+use Rattle.stream.proofs.Bounds.{lawful-line, lawful-answer}
 
 -- ---- the number 1
 

@@ -9,7 +9,7 @@ unfoldable pub digits : ℕ → ℕ → List ℕ
 digits zero n = []
 digits (suc k) n = let higher = digits k (n / 10) in cond (ltb n 10) [] higher ++ ((48 + n % 10) ∷ [])
 
--- no number has more digits than the next number counts
+-- n + 1 digits are more than enough for n
 unfoldable pub decimal : ℕ → List ℕ
 decimal n = digits (suc n) n
 

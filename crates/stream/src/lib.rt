@@ -87,7 +87,7 @@ fn tell(out: &mut [u8], refusal: Refusal) -> usize
     len
 }
 
-// Where the input holds the first record whole.
+// Does the input hold a whole header, and as many bytes as its total?
 fn holds_first(input: &[u8]) -> bool
     ensures { λ r. ⌜ r ≡ holdsFirst (now (input .entry)) ⌝ }
 {
@@ -97,7 +97,7 @@ fn holds_first(input: &[u8]) -> bool
     lent::half(input, 24) <= input.len()
 }
 
-// The first record is not there: 1, operand 1.
+// The one refusal that is decided here: 1, operand 1.
 fn refuse_first(work: &mut [u8], out: &mut [u8]) -> Written
     ensures { λ r. ⌜ Leaves (refusedOutput (length (now (out .entry))) (refusal 1 1 0)) r (now (out .exit)) (length (now (work .entry))) (now (work .exit)) ⌝ }
 {

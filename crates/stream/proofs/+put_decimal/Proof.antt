@@ -1,5 +1,5 @@
 -- `stream::put_decimal` meets its contract: the higher digits, and the last after them.
-use Prim.Native.Nat.{ℕ, _/_, _%_, _<_}
+use Prim.Native.Nat.{ℕ, _<_}
 use native.Mathlib.Omega.{arith}
 use borrow.Author.Needs.{needs}
 use Rattle.stream.proofs.Decimals.{digit-stored, digits-stored, length-digit, length-more}
