@@ -264,6 +264,7 @@ static void check_many(void)
     for (int i = 0; i < 10; i++)
         for (enum face f = MUL; f <= ANTICOMMUTATOR; f++) {
             draw_many(&s, 63, f == MUL ? MAX_TERMS / 2 + below(2) : MAX_TERMS);
+            s.m = 64;
             for (size_t j = 0; j < s.n; j++) {
                 s.at[j].ann <<= 1;
                 s.at[j].cre <<= 1;
@@ -272,7 +273,8 @@ static void check_many(void)
             one_term(&b, 1, 0, 1);
             put(&t, 1, 0, -1);
             write_record(&b, &t);
-            judge_near(f, i % 2 ? &a : &b, i % 2 ? &b : &a);
+            struct answer right = judge_product(f, i % 2 ? &a : &b, i % 2 ? &b : &a, MOST, ROOM);
+            must(f, right.n[0] == 0 || right.n[0] == 10);
         }
 }
 
