@@ -70,6 +70,48 @@ fn measure(m: u64, a: &Operator, b: &Operator, commutator: bool, library: &mut L
     (answer, zixy.nanoseconds() / 1000.0, own.nanoseconds() / 1000.0)
 }
 
+/// A row: annihilations, creations, and whether the coefficient is negative.
+type Row = (u64, u64, bool);
+
+/// The rows of one product with coefficients 1 or -1, the lowest branching mode the most significant choice, low first.
+fn rows(left: (u64, u64), right: (u64, u64), minus: bool, out: &mut Vec<Row>) {
+    let ((la, lc), (ra, rc)) = (left, right);
+    if lc & rc & !la | la & ra & !rc != 0 {
+        return;
+    }
+    // the exchanges of inserting or removing the modes of `at`, one at a time, in the occupation `word`
+    let crossed = |word: u64, at: u64| (0..64).filter(|p| at >> p & 1 == 1).map(|p| (word & ((1 << p) - 1)).count_ones()).sum::<u32>();
+    let common = la & rc;
+    let branching: Vec<u64> = (0..64).rev().map(|p| 1 << p).filter(|mode| common & !lc & !ra & mode != 0).collect();
+    for choice in 0..1u64 << branching.len() {
+        let kept = (0..branching.len()).filter(|i| choice >> i & 1 == 1).fold(0, |word, i| word | branching[i]);
+        let (cre, ann) = (lc | (rc ^ common) | kept, ra | (la ^ common) | kept);
+        let flips = kept.count_ones() + crossed(ra, rc) + crossed(ra ^ rc, la) + crossed(ra ^ rc ^ la, lc) + crossed(ann, cre);
+        out.push((ann, cre, minus ^ (flips % 2 == 1)));
+    }
+}
+
+/// How many rows of a commutator the library writes: the last row of the first order is kept in hand, and cancels the last
+/// row before it where it has the same words and the opposite coefficient.
+fn rows_written(a: &Operator, b: &Operator) -> usize {
+    let mut written: Vec<(Row, i64)> = Vec::new();
+    for (t, x) in a {
+        for (u, y) in b {
+            let [mut one, mut two] = [Vec::new(), Vec::new()];
+            rows(*t, *u, false, &mut one);
+            rows(*u, *t, true, &mut two);
+            let hand = one.pop().map(|row| (row, x * y));
+            written.extend(one.into_iter().chain(two).map(|row| (row, x * y)));
+            let Some((row, size)) = hand else { continue };
+            match written.last() {
+                Some(((ann, cre, minus), z)) if (*ann, *cre, *z) == (row.0, row.1, size) && *minus != row.2 => drop(written.pop()),
+                _ => written.push((row, size)),
+            }
+        }
+    }
+    written.len()
+}
+
 fn ratio(answer: &[u64; 8], zixy: f64, own: f64) -> String {
     match answer[0] {
         0 => format!("{:.1}", zixy / own),
@@ -79,7 +121,7 @@ fn ratio(answer: &[u64; 8], zixy: f64, own: f64) -> String {
 
 fn commutators(file: &str) {
     println!("commutators of two-body terms");
-    println!("{:>6}{:>7}{:>8}{:>10}{:>12}{:>12}{:>12}", "modes", "terms", "result", "branches", "zixy us", "library us", "zixy / it");
+    println!("{:>6}{:>7}{:>8}{:>10}{:>9}{:>12}{:>12}{:>12}", "modes", "terms", "result", "branches", "written", "zixy us", "library us", "zixy / it");
     for (m, n) in [16, 32, 64].into_iter().flat_map(|m| [32, 64, 90].map(|n| (m, n))) {
         let mut draw = Draw(m * 100_000 + n as u64);
         let [a, b] = [(); 2].map(|()| operator(&mut draw, m, n, &Operator::new()));
@@ -87,7 +129,8 @@ fn commutators(file: &str) {
         let mut library = Library::new(file, c"fermion_commutator", 3 * n * n);
         let (answer, zixy, own) = measure(m, &a, &b, true, &mut library, timing::ROUNDS);
         let terms = answer[3].saturating_sub(32) / 24;
-        println!("{m:>6}{n:>7}{terms:>8}{:>10}{zixy:>12.1}{own:>12.1}{:>12}", answer[4], ratio(&answer, zixy, own));
+        let (written, ratio) = (rows_written(&a, &b), ratio(&answer, zixy, own));
+        println!("{m:>6}{n:>7}{terms:>8}{:>10}{written:>9}{zixy:>12.1}{own:>12.1}{ratio:>12}", answer[4]);
     }
 }
 
