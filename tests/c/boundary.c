@@ -1,4 +1,4 @@
-/* Records at the ends of what is accepted: headers wrong field by field, words outside, order, zeros, weights, sizes. */
+/* Records at the ends of what is accepted: headers wrong by field, words outside, order, zeros, weights, sizes. */
 #include "test.h"
 #include <string.h>
 

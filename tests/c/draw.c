@@ -89,6 +89,13 @@ void draw_terms(struct terms *to, unsigned m, size_t most)
     join(to);
 }
 
+/* up to 9 terms in most draws, up to 40 in some */
+void draw_any(struct terms *to)
+{
+    unsigned m = draw_modes();
+    draw_terms(to, m, one_in(20) ? 40 : 9);
+}
+
 /* terms that share some with `from`: equal, opposite and other coefficients */
 void draw_relative(struct terms *to, const struct terms *from)
 {
@@ -137,6 +144,14 @@ void copy_terms(struct terms *to, const struct terms *from)
 void write_record(struct record *to, const struct terms *t)
 {
     to->len = encode(to->bytes, t);
+}
+
+/* no terms, on m modes */
+void write_none(struct record *to, unsigned m)
+{
+    static struct terms none;
+    none.m = m;
+    write_record(to, &none);
 }
 
 struct bytes bytes_of(const struct record *r)

@@ -26,13 +26,13 @@ static struct answer judge_matrix(const struct record *r, const uint64_t *basis,
     return right;
 }
 
-/* x and y may be the same memory */
 static struct answer judge_compare(const struct record *x, const struct record *y)
 {
     struct answer right = plain_compare(bytes_of(x), bytes_of(y));
-    const uint8_t *at_x = show(&shown[0], x->bytes, x->len), *at_y = x == y ? at_x : show(&shown[1], y->bytes, y->len);
-    fermion_compare(at_x, x->len, at_y, y->len, lend_answer());
-    judge(COMPARE, &right, holds(&shown[0]) && (x == y || holds(&shown[1])));
+    const uint8_t *at[2];
+    show_two(shown, x, y, at);
+    fermion_compare(at[0], x->len, at[1], y->len, lend_answer());
+    judge(COMPARE, &right, hold_two(shown));
     return right;
 }
 
@@ -45,14 +45,13 @@ static void on_boundary(const struct record *r, uint64_t number, uint64_t place)
     require(ELEMENT, &right, number, number ? 1 : 0, place);
     right = judge_matrix(r, number ? wrong : none_yet, number ? 9 : 0);
     require(MATRIX, &right, number, number ? 1 : 0, place);
-    t.m = number || r->len < HEADER ? 9 : r->bytes[4];
-    t.n = 0;
-    write_record(&none, &t);
+    unsigned m = number ? 9 : r->bytes[4];
+    write_none(&none, m);
     right = judge_compare(r, &none);
     require(COMPARE, &right, number, number ? 1 : 0, place);
     right = judge_compare(&none, r);
     require(COMPARE, &right, number, number ? 2 : 0, place);
-    none.bytes[4] = (uint8_t)(none.bytes[4] % 64 + 1);
+    write_none(&none, m % 64 + 1);
     right = judge_compare(r, &none);
     require(COMPARE, &right, number ? number : 6, number ? 1 : 0, place);
     right = judge_compare(&none, r);
@@ -83,7 +82,7 @@ static uint64_t draw_bra(const struct terms *x, uint64_t ket)
 
 static void draw_record(void)
 {
-    draw_terms(&s, draw_modes(), one_in(20) ? 40 : 9);
+    draw_any(&s);
     if (one_in(3)) /* terms that all keep a word, so that many join in one element */
         for (size_t i = 0; i < s.n; i++)
             s.at[i].cre = s.at[i].ann;

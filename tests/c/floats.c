@@ -29,8 +29,8 @@ static struct answer judge_floats(void)
     if (f.parts == 1)
         fermion_mat_elem_real(f.m, c, f.cre_len, a, f.ann_len, re, f.part_len[0], f.bra, f.ket, to, lend_answer());
     else
-        fermion_mat_elem_complex(f.m, c, f.cre_len, a, f.ann_len, re, f.part_len[0], im, f.part_len[1], f.bra, f.ket, to,
-                                 lend_answer());
+        fermion_mat_elem_complex(f.m, c, f.cre_len, a, f.ann_len, re, f.part_len[0], im, f.part_len[1], f.bra, f.ket,
+                                 to, lend_answer());
     bool kept = holds(&shown[0]) && holds(&shown[1]) && holds(&shown[2]) && holds(&shown[3]);
     judge(which(), &right, kept && holds(&out));
     return right;
@@ -78,9 +78,11 @@ static double draw_finite(void)
     return isfinite(d) ? d : 0.5;
 }
 
-/* n terms; most of them take the ket to the bra, some of them as repeats of an earlier term */
-static void draw_list(unsigned m, size_t n)
+/* up to 8 terms, sometimes up to 59; most of them take the ket to the bra, some repeat an earlier term */
+static void draw_list(void)
 {
+    unsigned m = draw_modes();
+    size_t n = one_in(40) ? below(60) : below(9);
     f.m = m;
     f.ket = draw_word(m);
     f.bra = draw_word(m);
@@ -126,7 +128,7 @@ static void spoil(void)
 static void check_drawn(void)
 {
     for (long i = 0; i < CASES; i++) {
-        draw_list(draw_modes(), one_in(40) ? below(60) : below(9));
+        draw_list();
         if (one_in(3))
             spoil();
         judge_floats();

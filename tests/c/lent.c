@@ -69,6 +69,15 @@ const uint8_t *show_aligned(struct lent *l, const void *bytes, size_t len)
     return filled(l, bytes, len);
 }
 
+/* two records; one record given twice is the same memory */
+void show_two(struct lent l[2], const struct record *x, const struct record *y, const uint8_t *at[2])
+{
+    at[0] = show(&l[0], x->bytes, x->len);
+    at[1] = show(&l[1], y->bytes, x == y ? 0 : y->len);
+    if (x == y)
+        at[1] = at[0];
+}
+
 /* these bytes, then zeros to the end of what was lent */
 void must_hold(struct lent *l, const void *bytes, size_t len)
 {
@@ -79,4 +88,9 @@ void must_hold(struct lent *l, const void *bytes, size_t len)
 bool holds(const struct lent *l)
 {
     return memcmp(l->whole, l->right, l->start + l->len + GUARD) == 0;
+}
+
+bool hold_two(const struct lent l[2])
+{
+    return holds(&l[0]) && holds(&l[1]);
 }

@@ -13,17 +13,17 @@ static const struct {
 } products[] = {
     [MUL] = {fermion_mul, 0}, [COMMUTATOR] = {fermion_commutator, -1}, [ANTICOMMUTATOR] = {fermion_anticommutator, 1}};
 
-/* x and y may be the same memory */
 static struct answer judge_product(enum face f, const struct record *x, const struct record *y, size_t rows,
                                    size_t room)
 {
     struct answer right = plain_product(bytes_of(x), bytes_of(y), products[f].other_order, rows, room, written);
-    const uint8_t *at_x = show(&shown[0], x->bytes, x->len), *at_y = x == y ? at_x : show(&shown[1], y->bytes, y->len);
+    const uint8_t *at[2];
+    show_two(shown, x, y, at);
     uint8_t *with = lend(&work, rows), *to = lend(&out, room);
     must_hold(&work, written, 0);
     must_hold(&out, written, right.n[3]);
-    products[f].call(at_x, x->len, at_y, y->len, with, rows, to, room, lend_answer());
-    judge(f, &right, holds(&shown[0]) && (x == y || holds(&shown[1])) && holds(&work) && holds(&out));
+    products[f].call(at[0], x->len, at[1], y->len, with, rows, to, room, lend_answer());
+    judge(f, &right, hold_two(shown) && holds(&work) && holds(&out));
     return right;
 }
 
@@ -52,16 +52,15 @@ static void judge_near(enum face f, const struct record *x, const struct record 
 static void on_boundary(const struct record *r, uint64_t number, uint64_t place)
 {
     static struct record none;
-    t.m = number || r->len < HEADER ? 9 : r->bytes[4];
-    t.n = 0;
-    write_record(&none, &t);
+    unsigned m = number ? 9 : r->bytes[4];
+    write_none(&none, m);
     for (enum face f = MUL; f <= ANTICOMMUTATOR; f++) {
         struct answer right = judge_product(f, r, &none, 0, ROOM);
         require(f, &right, number, number ? 1 : 0, place);
         right = judge_product(f, &none, r, 100, ROOM);
         require(f, &right, number, number ? 2 : 0, place);
     }
-    none.bytes[4] = (uint8_t)(none.bytes[4] % 64 + 1);
+    write_none(&none, m % 64 + 1);
     for (enum face f = MUL; f <= ANTICOMMUTATOR; f++) {
         struct answer right = judge_product(f, r, &none, 100, 0);
         require(f, &right, number ? number : 6, number ? 1 : 0, place);
@@ -93,7 +92,7 @@ static void load(struct terms *x)
         x->at[0].c += x->at[0].c < 0 ? -left : left;
 }
 
-/* two operators that are not too large to multiply by hand; the second is often the first's adjoint or shares terms */
+/* two operators that are not too large for the plain side; the second often shares terms or has the first's adjoint */
 static void draw_pair(void)
 {
     do {

@@ -55,7 +55,7 @@ static uint64_t asked_word(const struct terms *t)
 /* few annihilation words, so that stretches are long; otherwise terms of any kind, Hermitian in one of three */
 static void draw(struct terms *t)
 {
-    draw_terms(t, draw_modes(), one_in(20) ? 40 : 9);
+    draw_any(t);
     if (one_in(3))
         draw_partners(t);
     else if (one_in(3)) {

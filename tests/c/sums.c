@@ -6,16 +6,16 @@ static uint8_t written[ROOM];
 static struct record a, b;
 static struct terms s, t;
 
-/* x and y may be the same memory */
 static struct answer judge_sum(enum face f, const struct record *x, const struct record *y, size_t room)
 {
     sum_of *call = f == ADD ? fermion_add : fermion_sub;
     struct answer right = plain_sum(bytes_of(x), bytes_of(y), f == ADD ? 1 : -1, room, written);
-    const uint8_t *at_x = show(&shown[0], x->bytes, x->len), *at_y = x == y ? at_x : show(&shown[1], y->bytes, y->len);
+    const uint8_t *at[2];
+    show_two(shown, x, y, at);
     uint8_t *to = lend(&out, room);
     must_hold(&out, written, right.n[3]);
-    call(at_x, x->len, at_y, y->len, to, room, lend_answer());
-    judge(f, &right, holds(&shown[0]) && (x == y || holds(&shown[1])) && holds(&out));
+    call(at[0], x->len, at[1], y->len, to, room, lend_answer());
+    judge(f, &right, hold_two(shown) && holds(&out));
     return right;
 }
 
@@ -59,14 +59,13 @@ static void on_boundary(const struct record *r, uint64_t number, uint64_t place)
         right = judge_adjoint(r, r->len - 1);
         require(ADJOINT, &right, 11, 0, 0);
     }
-    t.m = number || r->len < HEADER ? 9 : r->bytes[4];
-    t.n = 0;
-    write_record(&none, &t);
+    unsigned m = number ? 9 : r->bytes[4];
+    write_none(&none, m);
     demand_sum(r, &none, ROOM, number, number ? 1 : 0, place);
     demand_sum(&none, r, ROOM, number, number ? 2 : 0, place);
     if (number)
         demand_sum(r, r, ROOM, number, 1, place);
-    none.bytes[4] = (uint8_t)(none.bytes[4] % 64 + 1);
+    write_none(&none, m % 64 + 1);
     demand_sum(r, &none, 0, number ? number : 6, number ? 1 : 0, place);
     demand_sum(&none, r, 0, number ? number : 6, number ? 2 : 0, place);
 }
@@ -74,7 +73,7 @@ static void on_boundary(const struct record *r, uint64_t number, uint64_t place)
 static void check_drawn(void)
 {
     for (long i = 0; i < CASES; i++) {
-        draw_terms(&s, draw_modes(), one_in(20) ? 40 : 9);
+        draw_any(&s);
         draw_relative(&t, &s);
         write_record(&a, &s);
         write_record(&b, &t);

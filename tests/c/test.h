@@ -27,11 +27,13 @@ unsigned draw_modes(void);
 uint64_t draw_word(unsigned m);
 uint64_t draw_word_off(unsigned m);
 void draw_terms(struct terms *to, unsigned m, size_t most);
+void draw_any(struct terms *to);
 void draw_relative(struct terms *to, const struct terms *from);
 void draw_partners(struct terms *t);
 void draw_many(struct terms *to, unsigned m, size_t n);
 void copy_terms(struct terms *to, const struct terms *from);
 void write_record(struct record *to, const struct terms *t);
+void write_none(struct record *to, unsigned m);
 void damage(struct record *r, const struct terms *t);
 struct bytes bytes_of(const struct record *r);
 size_t near_length(size_t right);
@@ -49,8 +51,10 @@ uint8_t *lend(struct lent *l, size_t len);
 uint8_t *lend_aligned(struct lent *l, size_t len);
 const uint8_t *show(struct lent *l, const void *bytes, size_t len);
 const uint8_t *show_aligned(struct lent *l, const void *bytes, size_t len);
+void show_two(struct lent l[2], const struct record *x, const struct record *y, const uint8_t *at[2]);
 void must_hold(struct lent *l, const void *bytes, size_t len);
 bool holds(const struct lent *l);
+bool hold_two(const struct lent l[2]);
 
 /* tally.c: one row for each function of fermion.h, in its order */
 
@@ -65,7 +69,7 @@ void must(enum face f, bool so);
 void require(enum face f, const struct answer *right, uint64_t number, uint64_t operand, uint64_t place);
 void report(int *passed, int *failed);
 
-/* boundary.c: records at the ends of what is accepted, with the refusal that the specification gives them, 0 for none */
+/* boundary.c: records at the ends of what is accepted, with the refusal that the specification gives, 0 for none */
 
 typedef void visit(const struct record *r, uint64_t number, uint64_t place);
 
