@@ -1,6 +1,6 @@
 #!/usr/bin/env bash
-# The bindings for Rust and for Python, tested on the shared object that tools/shared_object.sh makes; on x86-64 the Rust
-# crate is linked with the archive itself as well.
+# The bindings for Rust and for Python, tested on the shared object that tools/shared_object.sh makes; on x86-64 that is the
+# archive's own code.
 set -uo pipefail
 cd "$(dirname "$0")/.." || exit 1
 log=$(mktemp)
@@ -15,19 +15,18 @@ tally() { # NAME PASSED FAILED STATUS: a run that ends badly and counted no fail
     passed=$((passed + $2)) failed=$((failed + bad))
 }
 
-test_rust() { # FOLDER OF THE LIBRARY, WHAT TO TEST ..
+test_rust() { # FOLDER OF THE LIBRARY
     local folder=$1 status
-    shift
     if ! command -v cargo >/dev/null; then
         echo "cargo is missing, so the Rust crate cannot be tested" >"$log"
         tally "Rust" 0 1 1
         return
     fi
     FERMION_LIB_DIR=$folder cargo test --offline --locked --no-fail-fast --manifest-path bindings/rust/Cargo.toml \
-        --target-dir target/bindings-rust "$@" >"$log" 2>&1
+        --target-dir target/bindings-rust >"$log" 2>&1
     status=$?
     # shellcheck disable=SC2046 # two numbers
-    tally "Rust, $(basename "$folder")" $(awk '/^test result:/ { good += $4; bad += $6 } END { print good + 0, bad + 0 }' "$log") "$status"
+    tally "Rust" $(awk '/^test result:/ { good += $4; bad += $6 } END { print good + 0, bad + 0 }' "$log") "$status"
 }
 
 test_python() { # LIBRARY
@@ -49,6 +48,5 @@ echo "called from Rust and Python: ${built#*: }"
 library=${built%%: *}
 test_python "$library"
 test_rust "$(dirname "$library")"
-[ "$(uname -m)" != x86_64 ] || test_rust "$PWD/target/staticlib" --tests
 echo "$passed passed, $failed failed"
 [ "$failed" -eq 0 ]

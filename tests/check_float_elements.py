@@ -55,7 +55,7 @@ def drawn_list(rng, m, n, bra, ket):
 
 def check_drawn_floats(calls):
     rng = calls.rng
-    for _ in range(2500):
+    for _ in range(7600):
         m = rng.randint(1, 64)
         ket = face.word(rng, m, 0.5)
         bra = ket if rng.random() < 0.5 else face.word(rng, m, 0.5)

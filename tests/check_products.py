@@ -71,7 +71,7 @@ def common(left, right):
 
 
 def check_drawn(calls):
-    for i in range(2000):
+    for i in range(6800):
         a, b = drawn_pair(calls.rng)
         for name in CALLS:
             judge(calls, f"{name}: drawn operators", name, a, b)

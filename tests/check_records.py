@@ -62,9 +62,9 @@ def check_example(calls):
 
 
 def check_drawn(calls):
-    """2,000 records and 2,000 pairs, for every call."""
+    """Thousands of records and of pairs, for every call."""
     rng = calls.rng
-    for i in range(2000):
+    for i in range(9200):
         m = rng.randint(1, 64)
         some = draws.rows(rng, m, rng.randint(0, 12))
         a = records.encode(m, draws.swapped_too(rng, some) if i % 3 == 0 else some)
