@@ -19,7 +19,7 @@ use Rattle.products.specs.Operators.{signed, adds, part, element}
 use Rattle.products.specs.Apply.{resultOf}
 use Rattle.products.specs.declared.ApplyResult.the-variants.{Applied}
 use Rattle.products.proofs.Applying.{swapped-restores}
-use Rattle.rows.specs.Sums.{sumOf}
+use Rattle.modes.specs.Sums.{sumOf}
 use Rattle.adjoint.specs.Adjoint.{oddPairs, adjointTerm, adjointTerms}
 use Rattle.adjoint.proofs.Terms.{sum-adjoint, sum-same, each-term}
 
@@ -79,12 +79,6 @@ part-adjoint bra ket t f = go _ _ refl refl
 
 -- ---- the operator
 
-element-sum : (bra ket : ℕ) (ts : List Term) → element bra ket ts ≡ sumOf (part bra ket) ts
-unfolding element sumOf
-element-sum bra ket [] = refl
-element-sum bra ket (t ∷ ts) = ap (λ (z : ℤ). part bra ket t +ℤ z) (element-sum bra ket ts)
-
 pub element-adjoint : (bra ket : ℕ) (ts : List Term) → Every Fit ts → element bra ket (adjointTerms ts) ≡ element ket bra ts
 element-adjoint bra ket ts f =
-    element-sum bra ket (adjointTerms ts) ∙ sum-adjoint (part bra ket) ts
-    ∙ sum-same (λ t. part bra ket (adjointTerm t)) (part ket bra) ts (each-term ts (part-adjoint bra ket) f) ∙ sym (element-sum ket bra ts)
+    sum-adjoint (part bra ket) ts ∙ sum-same (λ t. part bra ket (adjointTerm t)) (part ket bra) ts (each-term ts (part-adjoint bra ket) f)

@@ -20,7 +20,7 @@ use Rattle.rows.specs.Terms.{at, upTo}
 use Rattle.rows.specs.Places.{columnPlaces, termIn}
 use Rattle.rows.specs.Places as places
 use Rattle.rows.specs.Order.{key, Distinct}
-use Rattle.rows.specs.Sums.{sumOf}
+use Rattle.modes.specs.Sums.{sumOf}
 use Rattle.rows.specs.Sorted.{Sorted}
 use Rattle.rows.proofs.Keys.{key-words, key-less}
 use Rattle.rows.proofs.Choices.{apart-or}

@@ -11,7 +11,8 @@ use Rattle.modes.specs.Counts.{parity, pairs}
 use Rattle.lent.specs.Every.{Every, none, more}
 use Rattle.lent.proofs.RowLaws.{term-of}
 use Rattle.products.specs.Operators.{signed}
-use Rattle.rows.specs.Sums.{sumOf}
+use Rattle.modes.specs.Sums.{sumOf}
+use Rattle.modes.proofs.Sums.{sum-map}
 use Rattle.record.specs.Terms.{before, Ascending, empty, above, weight}
 use Rattle.record.specs.Coefficients.{coeffIn, coeffOf}
 use Rattle.record.specs.Canonical.{Inside, Nonzero, Canonical}
@@ -169,11 +170,6 @@ canonical-adjoint m ts k =
 
 -- ---- lists of one sum are one list
 
-pub coeff-sum : (c a : ℕ) (ts : List Term) → coeffOf c a ts ≡ sumOf (coeffIn c a) ts
-unfolding coeffOf sumOf
-coeff-sum c a [] = refl
-coeff-sum c a (t ∷ ts) = ap (λ (z : ℤ). coeffIn c a t +ℤ z) (coeff-sum c a ts)
-
 pub sum-same : (v w : Term → ℤ) (ts : List Term) → Every (λ t. v t ≡ w t) ts → sumOf v ts ≡ sumOf w ts
 unfolding sumOf
 sum-same v w [] none = refl
@@ -183,24 +179,19 @@ pub every-term : (P : Term → Type 0) (ts : List Term) → ((t : Term) → P t)
 every-term P [] h = none
 every-term P (t ∷ ts) h = more (h t) (every-term P ts h)
 
-pub sum-map : (w : Term → ℤ) (ts : List Term) → sumOf w (map adjointTerm ts) ≡ sumOf (λ t. w (adjointTerm t)) ts
-unfolding sumOf
-sum-map w [] = refl
-sum-map w (t ∷ ts) = ap (λ (z : ℤ). w (adjointTerm t) +ℤ z) (sum-map w ts)
-
 -- an ascending list of the adjoint terms, whatever made it
 pub is-adjoint : (ts us : List Term) → Ascending ts → Every Nonzero ts → Ascending us → Every Nonzero us
     → ((w : Term → ℤ) → sumOf w us ≡ sumOf w (map adjointTerm ts)) → us ≡ adjointTerms ts
 is-adjoint ts us a n b m e =
     same-terms us (adjointTerms ts) b (ascending-adjoint ts a) m (nonzero-adjoint ts n)
-    (λ c d. coeff-sum c d us ∙ e (coeffIn c d) ∙ sum-map (coeffIn c d) ts ∙ sym (coeff-sum c d (adjointTerms ts) ∙ sum-adjoint (coeffIn c d) ts))
+    (λ c d. e (coeffIn c d) ∙ sum-map (coeffIn c d) adjointTerm ts ∙ sym (sum-adjoint (coeffIn c d) ts))
 
 -- the adjoint of the adjoint
 pub terms-twice : (m : ℕ) (ts : List Term) → Canonical m ts → adjointTerms (adjointTerms ts) ≡ ts
 terms-twice m ts k =
     let j = canonical-adjoint m ts k in
     sym (is-adjoint (adjointTerms ts) ts (j .ascending) (j .nonzero) (k .ascending) (k .nonzero)
-    (λ w. sym (sum-map w (adjointTerms ts) ∙ sum-adjoint (λ t. w (adjointTerm t)) ts
+    (λ w. sym (sum-map w adjointTerm (adjointTerms ts) ∙ sum-adjoint (λ t. w (adjointTerm t)) ts
     ∙ sum-same (λ t. w (adjointTerm (adjointTerm t))) w ts (every-term _ ts (λ t. ap w (adjoint-twice t))))))
 
 -- ---- what can be negated

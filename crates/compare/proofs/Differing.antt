@@ -8,6 +8,7 @@ use native.Mathlib.Omega.{arith}
 use lib.Dec.{eqb}
 use lib.IntN.{ℤ, pos, natAbs, negℤ, _+ℤ_, _-ℤ_, +ℤ-idl, +ℤ-invr, -ℤ-+ℤ-cancel}
 use borrow.Author.Tests.{eq-eqb, ne-eqb, eqb-true, eqb-false}
+use Rattle.modes.specs.Sums.{sumOf}
 use Rattle.modes.specs.declared.Term.{Term}
 use Rattle.modes.proofs.Bools.{and-l, and-r}
 use Rattle.lent.specs.Every.{Every, none, more}
@@ -56,7 +57,7 @@ some-more P (t ∷ ts) us (inr s) = inr (some-more P ts us (inr s))
 
 -- where the coefficient is not zero the words are held
 held : (c a : ℕ) (ts : List Term) → (coeffOf c a ts ≡ pos 0 → ⊥) → Held c a ts
-unfolding coeffOf
+unfolding sumOf
 held c a [] n = absurd (n refl)
 held c a (t ∷ ts) n = go (held c a ts) (eqb (t .ann) a && eqb (t .cre) c) refl n
   where
@@ -129,7 +130,7 @@ later-words t u e = go (order t u e)
 
 -- in an ascending list the coefficient at a term's words is the term's
 own-coeffs : (ts : List Term) → Ascending ts → Every (λ t. coeffOf (t .cre) (t .ann) ts ≡ t .coeff) ts
-unfolding coeffOf
+unfolding sumOf
 own-coeffs [] empty = none
 own-coeffs (t ∷ ts) (above h s) = more (own-coeff t ts h) (go ts h (own-coeffs ts s))
   where

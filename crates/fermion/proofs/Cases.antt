@@ -4,9 +4,9 @@ use mathlib.Core.Bool.{false}
 use Rattle.modes.specs.Bools.{_⊕_}
 use Rattle.modes.specs.Words.{bit, each}
 use Rattle.modes.specs.Counts.{count, odd, oddExchanges}
+use Rattle.modes.specs.Sums.{sumOf}
 use Rattle.lent.specs.Bytes.{bytes, num, numAt}
 use Rattle.products.specs.PhaseRule.{went, term, ladders, ladder}
-use Rattle.products.specs.Operators.{element}
 use Rattle.products.specs.Apply.{resultOf}
 use Rattle.products.specs.Product.{choices, rowsTimes}
 use Rattle.products.proofs.ClosedForm.{term-none}
@@ -22,7 +22,7 @@ use Rattle.multiply.specs.Answers.{weightRefusal, workRefusal}
 use Rattle.fermion.specs.Cases.{cases, AllHold}
 
 pub cases-hold : AllHold cases
-unfolding term ladders ladder bit odd oddExchanges each choices rowsTimes _⊕_ count element bytes num numAt stored numbers sameNumbers before weight header column columns together termsIn laidOut orElse inside termRefusal termsRefusal refusalOf join insert collect dropZeros pairRefusal resultRefusal recordOutput pairRows rowsWith allRows branchesWith allBranches weightRefusal workRefusal example
+unfolding term ladders ladder bit odd oddExchanges each choices rowsTimes _⊕_ count sumOf bytes num numAt stored numbers sameNumbers before weight header column columns together termsIn laidOut orElse inside termRefusal termsRefusal refusalOf join insert collect dropZeros pairRefusal resultRefusal recordOutput pairRows rowsWith allRows branchesWith allBranches weightRefusal workRefusal example
 cases-hold = (
   refl,
   (

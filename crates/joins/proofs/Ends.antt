@@ -6,6 +6,7 @@ use native.Mathlib.Omega.{arith}
 use lib.Dec.{eqb}
 use lib.IntN.{pos}
 use borrow.Author.Tests.{ne-eqb}
+use Rattle.modes.specs.Sums.{sumOf}
 use Rattle.modes.specs.declared.Term.{Term}
 use Rattle.lent.specs.Every.{Every, none, more}
 use Rattle.record.specs.Terms.{before, Ascending, empty, above}
@@ -43,6 +44,6 @@ earlier-words t x e = go (order t x e)
 
 -- terms that stand before x have other words than x
 pub under-none : (ts : List Term) (x : Term) → Under x ts → coeffOf (x .cre) (x .ann) ts ≡ pos 0
-unfolding coeffOf
+unfolding sumOf
 under-none [] x none = refl
 under-none (t ∷ ts) x (more b u) = rw (earlier-words t x b, under-none ts x u)

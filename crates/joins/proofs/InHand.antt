@@ -1,15 +1,18 @@
 -- Rows read one by one, in order: those that are done, the one in hand, and what both make of the rows read.
 use mathlib.Core.Path.{_≡_, refl, sym, ap, _∙_, subst}
-use mathlib.Core.Bool.{true}
+use mathlib.Core.Bool.{true, cond, _&&_}
 use mathlib.Core.List.{List, [], _∷_, _++_}
 use mathlib.Core.Logic.{_⊎_, inl, inr}
 use Prim.Native.Nat.{ℕ, _+_, _≤_, _<_}
 use native.Mathlib.Omega.{arith}
 use lib.IntN.{ℤ, pos, natAbs, _+ℤ_, +ℤ-idl, +ℤ-idr, +ℤ-assoc}
 use borrow.Author.Tests.{eq-eqb}
+use lib.Dec.{eqb}
 use mir.Syntax.{w64}
 use mir.Val.{SFits}
+use Rattle.modes.specs.Sums.{sumOf}
 use Rattle.modes.specs.declared.Term.{Term}
+use Rattle.modes.proofs.Sums.{sum-last}
 use Rattle.lent.specs.Every.{Every, none}
 use Rattle.lent.specs.Rows.{Fit}
 use Rattle.lent.proofs.RowLaws.{term-of}
@@ -19,11 +22,10 @@ use Rattle.rows.proofs.Keys.{key-words, key-less}
 use Rattle.record.specs.Terms.{before, Ascending, empty}
 use Rattle.record.specs.Canonical.{Nonzero}
 use Rattle.record.specs.Coefficients.{coeffIn, coeffOf}
+use Rattle.lincomb.proofs.Totals.{where-add, where-zero}
 use Rattle.record.proofs.Order.{lower, level, ordered}
-use Rattle.record.proofs.Coefficients.{coeff-append}
 use Rattle.joins.specs.KeyWeights.{keyWeight}
 use Rattle.joins.specs.Steps.{Ended, dropped, stored}
-use Rattle.joins.proofs.Additive.{of, additive-coeff}
 use Rattle.joins.proofs.Ends.{Under, every-end, ascending-end, under-trans, under-same, under-none}
 use Rattle.joins.proofs.KeyWeights.{coeff-below, weight-end}
 
@@ -45,24 +47,20 @@ pub record InHand (ts : List Term) (x : Term) (us : List Term) : Type 0 where
 
 -- two terms that have the same words, as one
 abbrev pub joint : Term → Term → Term
-joint x y = of (x .cre) (x .ann) (x .coeff +ℤ y .coeff)
-
-coeff-end : (c a : ℕ) (ts : List Term) (x : Term) → coeffOf c a (ts ++ (x ∷ [])) ≡ coeffOf c a ts +ℤ coeffIn c a x
-unfolding coeffOf
-coeff-end c a ts x = coeff-append c a ts (x ∷ []) ∙ ap (λ (z : ℤ). coeffOf c a ts +ℤ z) (+ℤ-idr (coeffIn c a x))
+joint x y = record { cre = x .cre; ann = x .ann; coeff = x .coeff +ℤ y .coeff }
 
 own-words : (t x : Term) → t .ann ≡ x .ann → t .cre ≡ x .cre → coeffIn (x .cre) (x .ann) t ≡ t .coeff
 own-words t x p q = rw (eq-eqb (t .ann) (x .ann) p, eq-eqb (t .cre) (x .cre) q)
 
 joint-coeff : (c a : ℕ) (x y : Term) → y .ann ≡ x .ann → y .cre ≡ x .cre → coeffIn c a (joint x y) ≡ coeffIn c a x +ℤ coeffIn c a y
 joint-coeff c a x y p q =
-    additive-coeff c a .both (x .cre) (x .ann) (x .coeff) (y .coeff) ∙ ap (λ (t : Term). coeffIn c a x +ℤ coeffIn c a t) (term-of (sym p) (sym q) refl)
+    where-add (eqb (x .ann) a && eqb (x .cre) c) (x .coeff) (y .coeff) ∙ ap (λ (t : Term). coeffIn c a x +ℤ coeffIn c a t) (term-of (sym p) (sym q) refl)
 
 zero-coeff : (c a : ℕ) (x : Term) → x .coeff ≡ pos 0 → coeffIn c a x ≡ pos 0
-zero-coeff c a x e = ap (λ (z : ℤ). coeffIn c a (of (x .cre) (x .ann) z)) e ∙ additive-coeff c a .none (x .cre) (x .ann)
+zero-coeff c a x e = ap (λ (z : ℤ). cond (eqb (x .ann) a && eqb (x .cre) c) z (pos 0)) e ∙ where-zero (eqb (x .ann) a && eqb (x .cre) c)
 
 pub first-in-hand : (x : Term) → Fit x → InHand [] x (x ∷ [])
-unfolding coeffOf
+unfolding sumOf
 first-in-hand x f = record {
   ascending = empty;
   under = none;
@@ -99,7 +97,7 @@ module _ (ts us : List Term) (x : Term) (s : InHand ts x us) where
     ascending = ascending-end ts x (s .ascending) (s .under);
     nonzero = every-end Nonzero ts x (s .nonzero) z;
     fit = every-end Fit ts x (s .fit) (s .own);
-    coeff = λ c a. coeff-end c a ts x ∙ s .coeff c a;
+    coeff = λ c a. sum-last (coeffIn c a) ts x ∙ s .coeff c a;
   }
 
   closed-under : (vs : List Term) (y : Term) → Ended ts x vs → before x y ≡ true → Under y vs
@@ -114,7 +112,7 @@ module _ (ts us : List Term) (x : Term) (s : InHand ts x us) where
     nonzero = d .nonzero;
     fit = d .fit;
     own = f;
-    coeff = λ c a. ap (λ (z : ℤ). z +ℤ coeffIn c a y) (d .coeff c a) ∙ sym (coeff-end c a us y);
+    coeff = λ c a. ap (λ (z : ℤ). z +ℤ coeffIn c a y) (d .coeff c a) ∙ sym (sum-last (coeffIn c a) us y);
   }
 
   -- the next row has the same words
@@ -127,7 +125,7 @@ module _ (ts us : List Term) (x : Term) (s : InHand ts x us) where
     own = record { ann = s .own .ann; cre = s .own .cre; coeff = f };
     coeff = λ c a. ap (λ (z : ℤ). coeffOf c a ts +ℤ z) (joint-coeff c a x y p q)
         ∙ sym (+ℤ-assoc (coeffOf c a ts) (coeffIn c a x) (coeffIn c a y))
-        ∙ ap (λ (z : ℤ). z +ℤ coeffIn c a y) (s .coeff c a) ∙ sym (coeff-end c a us y);
+        ∙ ap (λ (z : ℤ). z +ℤ coeffIn c a y) (s .coeff c a) ∙ sym (sum-last (coeffIn c a) us y);
   }
 
   -- the row in hand is the whole coefficient of its words

@@ -7,6 +7,7 @@ use native.Mathlib.Omega.{arith}
 use borrow.Author.Tests.{ltb-true}
 use lib.Dec.{eqb, ltb}
 use lib.IntN.{ℤ, pos, negsuc, natAbs, _+ℤ_}
+use Rattle.modes.specs.Sums.{sumOf}
 use Rattle.modes.specs.declared.Term.{Term}
 use Rattle.lent.specs.Rows.{rowsAt}
 use Rattle.record.specs.Terms.{weight}
@@ -24,7 +25,7 @@ triangle (negsuc a) (pos b) = let h = sub-at b (suc a) (ltb b (suc a)) refl in o
 triangle (negsuc a) (negsuc b) = omega arith
 
 pub coeff-below : (cre ann : ℕ) (ts : List Term) → natAbs (coeffOf cre ann ts) ≤ keyWeight cre ann ts
-unfolding coeffOf keyWeight
+unfolding sumOf keyWeight
 coeff-below cre ann [] = omega arith
 coeff-below cre ann (t ∷ ts) =
     let g = coeff-below cre ann ts in

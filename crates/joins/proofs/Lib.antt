@@ -1,4 +1,3 @@
-pub mod Additive
 pub mod KeyWeights
 pub mod Ends
 pub mod InHand

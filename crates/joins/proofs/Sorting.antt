@@ -12,7 +12,7 @@ use Rattle.rows.specs.declared.Places.{Places}
 use Rattle.rows.specs.Apart.{Apart}
 use Rattle.rows.specs.Order.{key}
 use Rattle.rows.specs.Places.{rowPlaces, termIn}
-use Rattle.rows.specs.Sums.{sumOf}
+use Rattle.modes.specs.Sums.{sumOf}
 use Rattle.rows.specs.Sorted.{Sorted}
 use Rattle.rows.proofs.Layouts.{rows-apart, term-row, terms-rows}
 use Rattle.rows.proofs.SortedTerms.{sum-kept, sorted-ascending, rows-around}
@@ -20,7 +20,6 @@ use Rattle.record.specs.Coefficients.{coeffIn, coeffOf}
 use Rattle.joins.specs.KeyWeights.{keyWeight, Light}
 use Rattle.joins.specs.Collected.{Collected}
 use Rattle.joins.specs.Steps.{InOrder}
-use Rattle.joins.proofs.Additive.{coeff-sum}
 use Rattle.joins.proofs.Closing.{same-from}
 
 -- the weight is a sum over the terms
@@ -44,7 +43,7 @@ module _ (n : ℕ) (l m : List ℕ) (places : Places) (front : places ≡ rowPla
   rows-sum w = ap (sumOf w) (sym (terms-rows 0 m n)) ∙ sum-kept in-rows w ∙ ap (sumOf w) (terms-rows 0 l n)
 
   sorted-coeff : (cre ann : ℕ) → coeffOf cre ann (rowsAt m 0 n) ≡ coeffOf cre ann (rowsAt l 0 n)
-  sorted-coeff cre ann = sym (coeff-sum cre ann (rowsAt m 0 n)) ∙ rows-sum (coeffIn cre ann) ∙ coeff-sum cre ann (rowsAt l 0 n)
+  sorted-coeff cre ann = rows-sum (coeffIn cre ann)
 
   sorted-weight : (cre ann : ℕ) → keyWeight cre ann (rowsAt m 0 n) ≡ keyWeight cre ann (rowsAt l 0 n)
   sorted-weight cre ann =

@@ -7,15 +7,16 @@ use native.Mathlib.Omega.{arith}
 use lib.IntN.{ℤ, pos, negsuc, natAbs}
 use lib.ListN.{drop}
 use Rattle.modes.specs.declared.Term.{Term}
+use Rattle.modes.proofs.Sums.{sum-append}
 use Rattle.lent.specs.Every.{Every, none, more}
 use Rattle.record.specs.Terms.{before, Above, Ascending, empty, above}
 use Rattle.record.specs.Layout.{termsIn}
 use Rattle.record.specs.Reading.{At}
 use Rattle.record.proofs.Order.{Compared, less, same, greater, compare, above-trans}
 use Rattle.products.specs.Operators.{signed}
+use Rattle.record.specs.Coefficients.{coeffIn}
 use Rattle.record.proofs.Reading.{none-left}
 use Rattle.record.proofs.Weights.{weight-at}
-use Rattle.record.proofs.Coefficients.{coeff-append}
 use Rattle.lincomb.specs.Normal.{join, dropZeros, normal}
 use Rattle.lincomb.specs.Sums.{turn}
 use Rattle.lincomb.specs.Merging.{merge, Sound, onward, Pulled}
@@ -64,7 +65,7 @@ ascending-merge (t ∷ ts) (u ∷ us) (above a s) (above b r) =
 pub merge-normal : (ts us : List Term) → Ascending ts → Ascending us → dropZeros (merge ts us) ≡ normal (ts ++ us)
 merge-normal ts us s r =
     normal-is (dropZeros (merge ts us)) (ts ++ us) (ascending-drop (merge ts us) (ascending-merge ts us s r)) (nonzero-drop (merge ts us))
-    (λ c a. coeff-drop c a (merge ts us) ∙ coeff-merge c a ts us ∙ sym (coeff-append c a ts us))
+    (λ c a. coeff-drop c a (merge ts us) ∙ coeff-merge c a ts us ∙ sym (sum-append (coeffIn c a) ts us))
 
 -- ---- a step
 

@@ -8,6 +8,7 @@ use lib.IntN.{natAbs}
 use borrow.Author.Tests.{eq-eqb, eqb-false}
 use Rattle.modes.specs.declared.Term.{Term}
 use Rattle.lent.specs.Every.{Every, none, more}
+use Rattle.products.specs.Operators.{element}
 use Rattle.record.specs.Terms.{before, Above, Ascending, empty, above}
 use Rattle.record.specs.Coefficients.{coeffOf}
 use Rattle.record.specs.Canonical.{Nonzero}
@@ -15,7 +16,7 @@ use Rattle.record.proofs.Order.{Compared, less, same, greater, compare, above-t
 use Rattle.record.proofs.Coefficients.{same-terms}
 use Rattle.lincomb.specs.Normal.{alike, join, insert, collect, dropZeros, normal}
 use Rattle.lincomb.specs.Sums.{turn}
-use Rattle.lincomb.proofs.Totals.{coeff-normal}
+use Rattle.lincomb.proofs.Totals.{coeff-normal, element-normal}
 
 -- ---- what holds of every term
 
@@ -124,3 +125,10 @@ normal-nonzero ts = nonzero-drop (collect ts)
 pub normal-is : (us ts : List Term) → Ascending us → Every Nonzero us → ((c a : ℕ) → coeffOf c a us ≡ coeffOf c a ts) → us ≡ normal ts
 normal-is us ts s n e =
     same-terms us (normal ts) s (normal-ascending ts) n (normal-nonzero ts) (λ c a. e c a ∙ sym (coeff-normal c a ts))
+
+-- lists with the same coefficients have the same elements
+pub coefficients-decide : (bra ket : ℕ) (ts us : List Term) → ((c a : ℕ) → coeffOf c a ts ≡ coeffOf c a us) → element bra ket ts ≡ element bra ket us
+coefficients-decide bra ket ts us e =
+    sym (element-normal bra ket ts)
+    ∙ ap (element bra ket) (normal-is (normal ts) us (normal-ascending ts) (normal-nonzero ts) (λ c a. coeff-normal c a ts ∙ e c a))
+    ∙ element-normal bra ket us

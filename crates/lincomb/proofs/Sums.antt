@@ -6,12 +6,13 @@ use Prim.Native.Nat.{ℕ, _+_, _-_}
 use lib.IntN.{ℤ, negℤ, _+ℤ_}
 use lib.ListN.{length, take}
 use Rattle.modes.specs.declared.Term.{Term}
+use Rattle.modes.proofs.Sums.{sum-append}
 use Rattle.modes.specs.declared.Refusal.{Refusal}
 use Rattle.modes.specs.declared.Written.{Written}
 use Rattle.modes.specs.Answers.{none}
 use Rattle.lent.specs.Every.{Every}
 use Rattle.lent.specs.Outputs.{refusedOutput, filledOutput, Gives}
-use Rattle.products.specs.Operators.{signed, element}
+use Rattle.products.specs.Operators.{signed, part, element}
 use Rattle.record.specs.Terms.{weight}
 use Rattle.record.specs.Layout.{encode, modesOf, termsOf}
 use Rattle.record.specs.Refusals.{refusalOf}
@@ -24,7 +25,7 @@ use Rattle.lincomb.specs.Merging.{Sound, onward}
 use Rattle.lincomb.specs.Tallies.{Tallied}
 use Rattle.lincomb.specs.declared.Opened.{Opened}
 use Rattle.lincomb.specs.declared.Tally.{Tally}
-use Rattle.lincomb.proofs.Totals.{element-append, element-normal, element-turn}
+use Rattle.lincomb.proofs.Totals.{element-normal, element-turn}
 use Rattle.lincomb.proofs.Normal.{every-append, every-map, every-normal, ascending-turn, normal-ascending, normal-nonzero}
 use Rattle.lincomb.proofs.Merging.{merge-normal}
 use Rattle.lincomb.proofs.Results.{Opens, opens, shuts, sound, first-fine, second-fine, same-modes, Deliverable, deliverable, verdict-same, refused-earlier, refused-late, delivers, result-earlier, result-accepted, result-modes, result-terms}
@@ -121,7 +122,7 @@ module _ (minus : Bool) (room : ℕ) (a b : List ℕ) (r : Written) (after : Lis
   pub sum-elements : (bra ket : ℕ) → element bra ket (termsOf (take (r .len) after)) ≡ element bra ket (termsOf a) +ℤ signed minus (element bra ket (termsOf b))
   sum-elements bra ket =
       ap (element bra ket) sum-terms ∙ element-normal bra ket (termsOf a ++ map (turn minus) (termsOf b))
-      ∙ element-append bra ket (termsOf a) (map (turn minus) (termsOf b)) ∙ ap (λ (x : ℤ). element bra ket (termsOf a) +ℤ x) (element-turn bra ket minus (termsOf b))
+      ∙ sum-append (part bra ket) (termsOf a) (map (turn minus) (termsOf b)) ∙ ap (λ (x : ℤ). element bra ket (termsOf a) +ℤ x) (element-turn bra ket minus (termsOf b))
 
 -- ADD: at every bra and ket the element of what is written is the sum of the two records' elements
 pub add-elements : (room : ℕ) (a b : List ℕ) (r : Written) (after : List ℕ) → Gives (added room a b) r after → r .refusal .number ≡ 0 → (bra ket : ℕ)

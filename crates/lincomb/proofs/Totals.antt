@@ -1,11 +1,12 @@
 -- What adds up over terms, as elements and coefficients do, is not changed by joining like terms, dropping zeros or merging.
 use mathlib.Core.Path.{_≡_, refl, sym, ap, ap₂, _∙_}
 use mathlib.Core.Bool.{Bool, true, false, cond, _&&_, true≢false}
-use mathlib.Core.List.{List, [], _∷_, _++_, map}
+use mathlib.Core.List.{List, [], _∷_, map}
 use Prim.Native.Nat.{ℕ}
 use lib.Dec.{eqb}
 use lib.IntN.{ℤ, pos, natAbs, _+ℤ_, +ℤ-idl, +ℤ-idr, +ℤ-assoc, +ℤ-comm, negℤ-+ℤ}
 use borrow.Author.Tests.{eqb-true, eq-eqb}
+use Rattle.modes.specs.Sums.{sumOf}
 use Rattle.modes.specs.declared.Term.{Term}
 use Rattle.modes.proofs.Bools.{and-l, and-r}
 use Rattle.products.specs.PhaseRule.{Outcome, gone, went, term}
@@ -17,16 +18,6 @@ use Rattle.record.proofs.Accepted.{abs-zero}
 use Rattle.lincomb.specs.Normal.{alike, join, insert, collect, dropZeros, normal}
 use Rattle.lincomb.specs.Sums.{turn}
 use Rattle.lincomb.specs.Merging.{merge}
-
--- the sum of f over the terms
-unfoldable pub total : (Term → ℤ) → List Term → ℤ
-total f [] = pos 0
-total f (t ∷ ts) = f t +ℤ total f ts
-
-pub total-append : (f : Term → ℤ) (ts us : List Term) → total f (ts ++ us) ≡ total f ts +ℤ total f us
-unfolding total
-total-append f [] us = sym (+ℤ-idl _)
-total-append f (t ∷ ts) us = ap (λ (x : ℤ). f t +ℤ x) (total-append f ts us) ∙ sym (+ℤ-assoc (f t) (total f ts) (total f us))
 
 swap : (x y z : ℤ) → x +ℤ (y +ℤ z) ≡ y +ℤ (x +ℤ z)
 swap x y z = sym (+ℤ-assoc x y z) ∙ ap (λ (w : ℤ). w +ℤ z) (+ℤ-comm x y) ∙ +ℤ-assoc y x z
@@ -46,51 +37,51 @@ pub record Additive (f : Term → ℤ) : Type 0 where
   pub none : (t : Term) → natAbs (t .coeff) ≡ 0 → f t ≡ pos 0
 
 module _ (f : Term → ℤ) (additive : Additive f) where
-  pub total-insert : (t : Term) (ts : List Term) → total f (insert t ts) ≡ f t +ℤ total f ts
-  unfolding total insert
-  total-insert t [] = refl
-  total-insert t (u ∷ ts) = go (total-insert t ts) (alike t u) (before t u) refl
+  pub sum-insert : (t : Term) (ts : List Term) → sumOf f (insert t ts) ≡ f t +ℤ sumOf f ts
+  unfolding sumOf insert
+  sum-insert t [] = refl
+  sum-insert t (u ∷ ts) = go (sum-insert t ts) (alike t u) (before t u) refl
     where
-      go : total f (insert t ts) ≡ f t +ℤ total f ts → (a b : Bool) → alike t u ≡ a
-          → total f (cond a (join t u ∷ ts) (cond b (t ∷ u ∷ ts) (u ∷ insert t ts))) ≡ f t +ℤ (f u +ℤ total f ts)
-      go ih true b e = ap (λ (x : ℤ). x +ℤ total f ts) (additive .like t u e) ∙ +ℤ-assoc (f t) (f u) (total f ts)
+      go : sumOf f (insert t ts) ≡ f t +ℤ sumOf f ts → (a b : Bool) → alike t u ≡ a
+          → sumOf f (cond a (join t u ∷ ts) (cond b (t ∷ u ∷ ts) (u ∷ insert t ts))) ≡ f t +ℤ (f u +ℤ sumOf f ts)
+      go ih true b e = ap (λ (x : ℤ). x +ℤ sumOf f ts) (additive .like t u e) ∙ +ℤ-assoc (f t) (f u) (sumOf f ts)
       go ih false true e = refl
-      go ih false false e = ap (λ (x : ℤ). f u +ℤ x) ih ∙ swap (f u) (f t) (total f ts)
+      go ih false false e = ap (λ (x : ℤ). f u +ℤ x) ih ∙ swap (f u) (f t) (sumOf f ts)
 
-  pub total-collect : (ts : List Term) → total f (collect ts) ≡ total f ts
-  unfolding total collect
-  total-collect [] = refl
-  total-collect (t ∷ ts) = total-insert t (collect ts) ∙ ap (λ (x : ℤ). f t +ℤ x) (total-collect ts)
+  pub sum-collect : (ts : List Term) → sumOf f (collect ts) ≡ sumOf f ts
+  unfolding sumOf collect
+  sum-collect [] = refl
+  sum-collect (t ∷ ts) = sum-insert t (collect ts) ∙ ap (λ (x : ℤ). f t +ℤ x) (sum-collect ts)
 
-  pub total-drop : (ts : List Term) → total f (dropZeros ts) ≡ total f ts
-  unfolding total dropZeros
-  total-drop [] = refl
-  total-drop (t ∷ ts) = go (total-drop ts) (eqb (natAbs (t .coeff)) 0) refl
+  pub sum-drop : (ts : List Term) → sumOf f (dropZeros ts) ≡ sumOf f ts
+  unfolding sumOf dropZeros
+  sum-drop [] = refl
+  sum-drop (t ∷ ts) = go (sum-drop ts) (eqb (natAbs (t .coeff)) 0) refl
     where
-      go : total f (dropZeros ts) ≡ total f ts → (b : Bool) → eqb (natAbs (t .coeff)) 0 ≡ b
-          → total f (cond b (dropZeros ts) (t ∷ dropZeros ts)) ≡ f t +ℤ total f ts
-      go ih true e = ih ∙ sym (+ℤ-idl (total f ts)) ∙ ap (λ (x : ℤ). x +ℤ total f ts) (sym (additive .none t (eqb-true _ _ e)))
+      go : sumOf f (dropZeros ts) ≡ sumOf f ts → (b : Bool) → eqb (natAbs (t .coeff)) 0 ≡ b
+          → sumOf f (cond b (dropZeros ts) (t ∷ dropZeros ts)) ≡ f t +ℤ sumOf f ts
+      go ih true e = ih ∙ sym (+ℤ-idl (sumOf f ts)) ∙ ap (λ (x : ℤ). x +ℤ sumOf f ts) (sym (additive .none t (eqb-true _ _ e)))
       go ih false e = ap (λ (x : ℤ). f t +ℤ x) ih
 
-  pub total-normal : (ts : List Term) → total f (normal ts) ≡ total f ts
-  total-normal ts = total-drop (collect ts) ∙ total-collect ts
+  pub sum-normal : (ts : List Term) → sumOf f (normal ts) ≡ sumOf f ts
+  sum-normal ts = sum-drop (collect ts) ∙ sum-collect ts
 
-  pub total-merge : (ts us : List Term) → total f (merge ts us) ≡ total f ts +ℤ total f us
-  unfolding merge total
-  total-merge [] us = sym (+ℤ-idl (total f us))
-  total-merge (t ∷ ts) [] = sym (+ℤ-idr (f t +ℤ total f ts))
-  total-merge (t ∷ ts) (u ∷ us) =
-      go (merge ts (u ∷ us)) (merge (t ∷ ts) us) (merge ts us) (total-merge ts (u ∷ us)) (total-merge (t ∷ ts) us) (total-merge ts us) (before t u) (before u t) refl refl
+  pub sum-merge : (ts us : List Term) → sumOf f (merge ts us) ≡ sumOf f ts +ℤ sumOf f us
+  unfolding merge sumOf
+  sum-merge [] us = sym (+ℤ-idl (sumOf f us))
+  sum-merge (t ∷ ts) [] = sym (+ℤ-idr (f t +ℤ sumOf f ts))
+  sum-merge (t ∷ ts) (u ∷ us) =
+      go (merge ts (u ∷ us)) (merge (t ∷ ts) us) (merge ts us) (sum-merge ts (u ∷ us)) (sum-merge (t ∷ ts) us) (sum-merge ts us) (before t u) (before u t) refl refl
     where
-      go : (a b c : List Term) → total f a ≡ total f ts +ℤ (f u +ℤ total f us) → total f b ≡ (f t +ℤ total f ts) +ℤ total f us
-          → total f c ≡ total f ts +ℤ total f us → (x y : Bool) → before t u ≡ x → before u t ≡ y
-          → total f (cond x (t ∷ a) (cond y (u ∷ b) (join t u ∷ c))) ≡ (f t +ℤ total f ts) +ℤ (f u +ℤ total f us)
-      go a b c p q s true y e h = ap (λ (z : ℤ). f t +ℤ z) p ∙ sym (+ℤ-assoc (f t) (total f ts) (f u +ℤ total f us))
-      go a b c p q s false true e h = ap (λ (z : ℤ). f u +ℤ z) q ∙ swap (f u) (f t +ℤ total f ts) (total f us)
+      go : (a b c : List Term) → sumOf f a ≡ sumOf f ts +ℤ (f u +ℤ sumOf f us) → sumOf f b ≡ (f t +ℤ sumOf f ts) +ℤ sumOf f us
+          → sumOf f c ≡ sumOf f ts +ℤ sumOf f us → (x y : Bool) → before t u ≡ x → before u t ≡ y
+          → sumOf f (cond x (t ∷ a) (cond y (u ∷ b) (join t u ∷ c))) ≡ (f t +ℤ sumOf f ts) +ℤ (f u +ℤ sumOf f us)
+      go a b c p q s true y e h = ap (λ (z : ℤ). f t +ℤ z) p ∙ sym (+ℤ-assoc (f t) (sumOf f ts) (f u +ℤ sumOf f us))
+      go a b c p q s false true e h = ap (λ (z : ℤ). f u +ℤ z) q ∙ swap (f u) (f t +ℤ sumOf f ts) (sumOf f us)
       go a b c p q s false false e h =
-          ap (λ (z : ℤ). z +ℤ total f c) (additive .like t u (alike-where-level t u e h)) ∙ ap (λ (z : ℤ). (f t +ℤ f u) +ℤ z) s
-          ∙ +ℤ-assoc (f t) (f u) (total f ts +ℤ total f us) ∙ ap (λ (z : ℤ). f t +ℤ z) (swap (f u) (total f ts) (total f us))
-          ∙ sym (+ℤ-assoc (f t) (total f ts) (f u +ℤ total f us))
+          ap (λ (z : ℤ). z +ℤ sumOf f c) (additive .like t u (alike-where-level t u e h)) ∙ ap (λ (z : ℤ). (f t +ℤ f u) +ℤ z) s
+          ∙ +ℤ-assoc (f t) (f u) (sumOf f ts +ℤ sumOf f us) ∙ ap (λ (z : ℤ). f t +ℤ z) (swap (f u) (sumOf f ts) (sumOf f us))
+          ∙ sym (+ℤ-assoc (f t) (sumOf f ts) (f u +ℤ sumOf f us))
 
 -- ---- signs
 
@@ -107,18 +98,18 @@ signed-twice true true z = refl
 signed-twice true false z = refl
 signed-twice false r z = refl
 
-pub total-turn : (f : Term → ℤ) (minus : Bool) → ((t : Term) → f (turn minus t) ≡ signed minus (f t)) → (ts : List Term)
-    → total f (map (turn minus) ts) ≡ signed minus (total f ts)
-unfolding total
-total-turn f minus h [] = sym (signed-zero minus)
-total-turn f minus h (t ∷ ts) = ap₂ (λ (x y : ℤ). x +ℤ y) (h t) (total-turn f minus h ts) ∙ sym (signed-add minus (f t) (total f ts))
+pub sum-turn : (f : Term → ℤ) (minus : Bool) → ((t : Term) → f (turn minus t) ≡ signed minus (f t)) → (ts : List Term)
+    → sumOf f (map (turn minus) ts) ≡ signed minus (sumOf f ts)
+unfolding sumOf
+sum-turn f minus h [] = sym (signed-zero minus)
+sum-turn f minus h (t ∷ ts) = ap₂ (λ (x y : ℤ). x +ℤ y) (h t) (sum-turn f minus h ts) ∙ sym (signed-add minus (f t) (sumOf f ts))
 
 -- a value that is taken where a test holds, and is zero elsewhere
-where-add : (b : Bool) (x y : ℤ) → cond b (x +ℤ y) (pos 0) ≡ cond b x (pos 0) +ℤ cond b y (pos 0)
+pub where-add : (b : Bool) (x y : ℤ) → cond b (x +ℤ y) (pos 0) ≡ cond b x (pos 0) +ℤ cond b y (pos 0)
 where-add true x y = refl
 where-add false x y = refl
 
-where-zero : (b : Bool) → cond b (pos 0) (pos 0) ≡ pos 0
+pub where-zero : (b : Bool) → cond b (pos 0) (pos 0) ≡ pos 0
 where-zero true = refl
 where-zero false = refl
 
@@ -144,26 +135,17 @@ coeff-additive c a =
       none = λ t z. ap (λ (x : ℤ). cond (eqb (t .ann) a && eqb (t .cre) c) x (pos 0)) (abs-zero (t .coeff) z) ∙ where-zero (eqb (t .ann) a && eqb (t .cre) c);
     }
 
-coeff-is : (c a : ℕ) (ts : List Term) → coeffOf c a ts ≡ total (coeffIn c a) ts
-unfolding coeffOf total
-coeff-is c a [] = refl
-coeff-is c a (t ∷ ts) = ap (λ (x : ℤ). coeffIn c a t +ℤ x) (coeff-is c a ts)
-
 pub coeff-normal : (c a : ℕ) (ts : List Term) → coeffOf c a (normal ts) ≡ coeffOf c a ts
-coeff-normal c a ts = coeff-is c a (normal ts) ∙ total-normal (coeffIn c a) (coeff-additive c a) ts ∙ sym (coeff-is c a ts)
+coeff-normal c a = sum-normal (coeffIn c a) (coeff-additive c a)
 
 pub coeff-drop : (c a : ℕ) (ts : List Term) → coeffOf c a (dropZeros ts) ≡ coeffOf c a ts
-coeff-drop c a ts = coeff-is c a (dropZeros ts) ∙ total-drop (coeffIn c a) (coeff-additive c a) ts ∙ sym (coeff-is c a ts)
+coeff-drop c a = sum-drop (coeffIn c a) (coeff-additive c a)
 
 pub coeff-merge : (c a : ℕ) (ts us : List Term) → coeffOf c a (merge ts us) ≡ coeffOf c a ts +ℤ coeffOf c a us
-coeff-merge c a ts us =
-    coeff-is c a (merge ts us) ∙ total-merge (coeffIn c a) (coeff-additive c a) ts us ∙ ap₂ (λ (x y : ℤ). x +ℤ y) (sym (coeff-is c a ts)) (sym (coeff-is c a us))
+coeff-merge c a = sum-merge (coeffIn c a) (coeff-additive c a)
 
 pub coeff-turn : (c a : ℕ) (minus : Bool) (ts : List Term) → coeffOf c a (map (turn minus) ts) ≡ signed minus (coeffOf c a ts)
-coeff-turn c a minus ts =
-    coeff-is c a (map (turn minus) ts)
-    ∙ total-turn (coeffIn c a) minus (λ t. where-signed (eqb (t .ann) a && eqb (t .cre) c) minus (t .coeff)) ts
-    ∙ ap (signed minus) (sym (coeff-is c a ts))
+coeff-turn c a minus = sum-turn (coeffIn c a) minus (λ t. where-signed (eqb (t .ann) a && eqb (t .cre) c) minus (t .coeff))
 
 -- ---- elements
 
@@ -191,22 +173,10 @@ element-additive bra ket =
       none = λ t z. ap (λ (x : ℤ). adds bra x (term (t .cre) (t .ann) (went ket false))) (abs-zero (t .coeff) z) ∙ adds-zero bra (term (t .cre) (t .ann) (went ket false));
     }
 
-element-is : (bra ket : ℕ) (ts : List Term) → element bra ket ts ≡ total (part bra ket) ts
-unfolding element total
-element-is bra ket [] = refl
-element-is bra ket (t ∷ ts) = ap (λ (x : ℤ). part bra ket t +ℤ x) (element-is bra ket ts)
-
-pub element-append : (bra ket : ℕ) (ts us : List Term) → element bra ket (ts ++ us) ≡ element bra ket ts +ℤ element bra ket us
-element-append bra ket ts us =
-    element-is bra ket (ts ++ us) ∙ total-append (part bra ket) ts us ∙ ap₂ (λ (x y : ℤ). x +ℤ y) (sym (element-is bra ket ts)) (sym (element-is bra ket us))
-
 -- joining like terms and dropping zeros changes no element
 pub element-normal : (bra ket : ℕ) (ts : List Term) → element bra ket (normal ts) ≡ element bra ket ts
-element-normal bra ket ts =
-    element-is bra ket (normal ts) ∙ total-normal (part bra ket) (element-additive bra ket) ts ∙ sym (element-is bra ket ts)
+element-normal bra ket = sum-normal (part bra ket) (element-additive bra ket)
 
 pub element-turn : (bra ket : ℕ) (minus : Bool) (ts : List Term) → element bra ket (map (turn minus) ts) ≡ signed minus (element bra ket ts)
-element-turn bra ket minus ts =
-    element-is bra ket (map (turn minus) ts)
-    ∙ total-turn (part bra ket) minus (λ t. adds-signed bra minus (t .coeff) (term (t .cre) (t .ann) (went ket false))) ts
-    ∙ ap (signed minus) (sym (element-is bra ket ts))
+element-turn bra ket minus =
+    sum-turn (part bra ket) minus (λ t. adds-signed bra minus (t .coeff) (term (t .cre) (t .ann) (went ket false)))

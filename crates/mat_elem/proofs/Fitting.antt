@@ -12,6 +12,7 @@ use borrow.Author.Tests.{eqb-true}
 use mir.Syntax.{w64}
 use mir.Val.{SFits}
 use Rattle.modes.specs.Answers.{none}
+use Rattle.modes.specs.Sums.{sumOf}
 use Rattle.modes.specs.declared.Term.{Term}
 use Rattle.lent.proofs.SignedNumbers.{abs-sum, abs-fits}
 use Rattle.products.specs.PhaseRule.{Outcome, gone, went, term}
@@ -37,7 +38,7 @@ adds-small bra z (went w s) = go (eqb w bra)
     go false = zero-le
 
 element-small : (bra ket : ℕ) (ts : List Term) → natAbs (element bra ket ts) ≤ weight ts
-unfolding element weight
+unfolding sumOf weight
 element-small bra ket [] = zero-le
 element-small bra ket (t ∷ ts) =
     omega (arith, abs-sum (part bra ket t) (element bra ket ts), adds-small bra (t .coeff) (term (t .cre) (t .ann) (went ket false)), element-small bra ket ts)

@@ -8,6 +8,7 @@ use native.Mathlib.Omega.{arith}
 use lib.IntN.{ℤ, pos, natAbs, _+ℤ_, +ℤ-idl, +ℤ-idr, +ℤ-assoc}
 use lib.ListN.{drop}
 use borrow.Author.Tests.{eq-eqb, ne-eqb}
+use Rattle.modes.specs.Sums.{sumOf}
 use Rattle.modes.specs.declared.Term.{Term}
 use Rattle.modes.specs.declared.Sign.{Sign}
 use Rattle.products.specs.PhaseRule.{Outcome, went, term}
@@ -49,7 +50,7 @@ module _ (bra ket : ℕ) (ts : List Term) where
   sum-starts h = record { rest = +ℤ-idl (element bra ket ts); light = rw (zero-add (weight ts)) h }
 
   front : (i : ℕ) (t : Term) → At ts i t → (element bra ket (drop i ts) ≡ part bra ket t +ℤ element bra ket (drop (i + 1) ts)) × (weight (drop i ts) ≡ natAbs (t .coeff) + weight (drop (i + 1) ts))
-  unfolding element weight
+  unfolding sumOf weight
   front i t e = (ap (element bra ket) e, ap weight e)
 
   pub sum-goes : (z p s : ℤ) (i : ℕ) (t : Term) → At ts i t → Summed bra ket ts z i → p ≡ part bra ket t → natAbs p ≤ natAbs (t .coeff) → s ≡ z +ℤ p
@@ -68,5 +69,5 @@ module _ (bra ket : ℕ) (ts : List Term) where
   term-light z i t e g = omega (arith, front i t e .1, g .light)
 
   pub sum-ends : (z : ℤ) (i : ℕ) → drop i ts ≡ [] → Summed bra ket ts z i → z ≡ element bra ket ts
-  unfolding element
+  unfolding sumOf
   sum-ends z i e g = sym (+ℤ-idr z) ∙ ap (λ (us : List Term). z +ℤ element bra ket us) (sym e) ∙ g .rest

@@ -4,14 +4,16 @@ use mathlib.Core.Bool.{Bool, true, false, cond}
 use mathlib.Core.List.{List, [], _∷_, _++_}
 use Prim.Native.Nat.{ℕ, _^_, _<_}
 use lib.IntN.{ℤ, pos, _+ℤ_, _*ℤ_, *ℤ-comm, +ℤ-idl, +ℤ-idr, +ℤ-assoc, +ℤ-comm}
+use Rattle.modes.specs.Sums.{sumOf}
 use Rattle.modes.specs.declared.Term.{Term}
+use Rattle.modes.proofs.Sums.{sum-append}
 use Rattle.lent.specs.Every.{Every, none, more}
 use Rattle.products.specs.PhaseRule.{went, term}
-use Rattle.products.specs.Operators.{signed, adds, element}
+use Rattle.products.specs.Operators.{signed, adds, part, element}
 use Rattle.products.specs.Product.{rowsTimes}
 use Rattle.products.proofs.ProductActs.{product-acts}
 use Rattle.record.specs.Canonical.{Inside}
-use Rattle.lincomb.proofs.Totals.{element-append, adds-signed, signed-add, signed-zero}
+use Rattle.lincomb.proofs.Totals.{adds-signed, signed-add, signed-zero}
 use Rattle.pairs.specs.Products.{pairRows, rowsWith, allRows, pairInTurn, withInTurn, inTurn}
 
 -- (w + x) + (y + z) by its first and its second parts
@@ -65,9 +67,9 @@ module _ (bra ket : ℕ) where
     -- the words of both terms are of 64 modes
     pair-elements : (t u : Term) → Inside 64 t → Inside 64 u
         → element bra ket (pairRows both minus t u) ≡ pairInTurn bra ket t u +ℤ other both minus (pairInTurn bra ket u t)
-    unfolding pairRows other element
+    unfolding pairRows other sumOf
     pair-elements t u ht hu =
-        element-append bra ket (rowsTimes (t .cre) (t .ann) (u .cre) (u .ann) (t .coeff *ℤ u .coeff)) (cond both (rowsTimes (u .cre) (u .ann) (t .cre) (t .ann) (signed minus (t .coeff *ℤ u .coeff))) [])
+        sum-append (part bra ket) (rowsTimes (t .cre) (t .ann) (u .cre) (u .ann) (t .coeff *ℤ u .coeff)) (cond both (rowsTimes (u .cre) (u .ann) (t .cre) (t .ann) (signed minus (t .coeff *ℤ u .coeff))) [])
         ∙ ap₂ (λ (x y : ℤ). x +ℤ y) (product-acts (t .cre) (t .ann) (u .cre) (u .ann) (ht .cre) (ht .ann) (hu .cre) (hu .ann) bra ket (t .coeff *ℤ u .coeff)) (go both)
       where
         go : (b : Bool) → element bra ket (cond b (rowsTimes (u .cre) (u .ann) (t .cre) (t .ann) (signed minus (t .coeff *ℤ u .coeff))) []) ≡ cond b (signed minus (pairInTurn bra ket u t)) (pos 0)
@@ -79,20 +81,20 @@ module _ (bra ket : ℕ) where
 
     with-elements : (t : Term) (us : List Term) → Inside 64 t → Every (Inside 64) us
         → element bra ket (rowsWith both minus t us) ≡ withInTurn bra ket t us +ℤ other both minus (after t us)
-    unfolding rowsWith withInTurn after element
+    unfolding rowsWith withInTurn after sumOf
     with-elements t [] ht none = sym (ap (λ (x : ℤ). pos 0 +ℤ x) (other-none both minus))
     with-elements t (u ∷ us) ht (more hu hus) =
-        element-append bra ket (pairRows both minus t u) (rowsWith both minus t us)
+        sum-append (part bra ket) (pairRows both minus t u) (rowsWith both minus t us)
         ∙ ap₂ (λ (x y : ℤ). x +ℤ y) (pair-elements t u ht hu) (with-elements t us ht hus)
         ∙ regroup (pairInTurn bra ket t u) (other both minus (pairInTurn bra ket u t)) (withInTurn bra ket t us) (other both minus (after t us))
         ∙ ap (λ (x : ℤ). (pairInTurn bra ket t u +ℤ withInTurn bra ket t us) +ℤ x) (sym (other-add both minus (pairInTurn bra ket u t) (after t us)))
 
     pub all-elements : (ts us : List Term) → Every (Inside 64) ts → Every (Inside 64) us
         → element bra ket (allRows both minus ts us) ≡ inTurn bra ket ts us +ℤ other both minus (inTurn bra ket us ts)
-    unfolding allRows inTurn element
+    unfolding allRows inTurn sumOf
     all-elements [] us none hus = sym (ap (λ (x : ℤ). pos 0 +ℤ x) (ap (other both minus) (none-in-turn us) ∙ other-none both minus))
     all-elements (t ∷ ts) us (more ht hts) hus =
-        element-append bra ket (rowsWith both minus t us) (allRows both minus ts us)
+        sum-append (part bra ket) (rowsWith both minus t us) (allRows both minus ts us)
         ∙ ap₂ (λ (x y : ℤ). x +ℤ y) (with-elements t us ht hus) (all-elements ts us hts hus)
         ∙ regroup (withInTurn bra ket t us) (other both minus (after t us)) (inTurn bra ket ts us) (other both minus (inTurn bra ket us ts))
         ∙ ap (λ (x : ℤ). (withInTurn bra ket t us +ℤ inTurn bra ket ts us) +ℤ x)

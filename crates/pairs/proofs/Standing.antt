@@ -12,11 +12,12 @@ use mir.Syntax.{w64}
 use mir.Val.{SFits, toZ, ofZ}
 use mir.Facts.{toZ-ofZ}
 use borrow.Author.Tests.{eqb-true}
+use Rattle.modes.specs.Sums.{sumOf}
 use Rattle.modes.specs.declared.Term.{Term}
+use Rattle.modes.proofs.Sums.{sum-append}
 use Rattle.lent.specs.Rows.{rowAt, putRow, rowsAt, Fit}
 use Rattle.lent.proofs.RowLaws.{rows-put}
 use Rattle.record.specs.Coefficients.{coeffIn, coeffOf}
-use Rattle.record.proofs.Coefficients.{coeff-append}
 use Rattle.joins.specs.KeyWeights.{keyWeight}
 use Rattle.joins.proofs.KeyWeights.{weight-append}
 use Rattle.pairs.specs.Filling.{Stands, Opposite, Settled, cancelled, kept}
@@ -38,7 +39,7 @@ stands-trans s t = record { coeff = λ c a. s .coeff c a ∙ t .coeff c a; light
 -- more rows after both
 pub stands-append : (us ts vs : List Term) → Stands us ts → Stands (us ++ vs) (ts ++ vs)
 stands-append us ts vs s = record {
-  coeff = λ c a. coeff-append c a us vs ∙ ap (λ (z : ℤ). z +ℤ coeffOf c a vs) (s .coeff c a) ∙ sym (coeff-append c a ts vs);
+  coeff = λ c a. sum-append (coeffIn c a) us vs ∙ ap (λ (z : ℤ). z +ℤ coeffOf c a vs) (s .coeff c a) ∙ sym (sum-append (coeffIn c a) ts vs);
   light = λ c a. omega (arith, weight-append c a us vs, weight-append c a ts vs, s .light c a);
 }
 
@@ -54,14 +55,14 @@ stands-swap us xs ys = record {
 }
   where
     by : (c a : ℕ) (vs ws : List Term) → coeffOf c a ((us ++ vs) ++ ws) ≡ (coeffOf c a us +ℤ coeffOf c a vs) +ℤ coeffOf c a ws
-    by c a vs ws = coeff-append c a (us ++ vs) ws ∙ ap (λ (z : ℤ). z +ℤ coeffOf c a ws) (coeff-append c a us vs)
+    by c a vs ws = sum-append (coeffIn c a) (us ++ vs) ws ∙ ap (λ (z : ℤ). z +ℤ coeffOf c a ws) (sum-append (coeffIn c a) us vs)
 
 -- two rows that cancel, gone from the end
 pub stands-cancel : (us : List Term) (x y : Term) → Opposite x y → Stands us ((us ++ (y ∷ [])) ++ (x ∷ []))
-unfolding coeffOf
+unfolding sumOf
 stands-cancel us x y o = record {
   coeff = λ c a. sym (
-      coeff-append c a (us ++ (y ∷ [])) (x ∷ []) ∙ ap (λ (z : ℤ). z +ℤ (coeffIn c a x +ℤ pos 0)) (coeff-append c a us (y ∷ []))
+      sum-append (coeffIn c a) (us ++ (y ∷ [])) (x ∷ []) ∙ ap (λ (z : ℤ). z +ℤ (coeffIn c a x +ℤ pos 0)) (sum-append (coeffIn c a) us (y ∷ []))
       ∙ +ℤ-assoc (coeffOf c a us) (coeffIn c a y +ℤ pos 0) (coeffIn c a x +ℤ pos 0)
       ∙ ap (λ (z : ℤ). coeffOf c a us +ℤ z)
       (ap₂ (λ (p q : ℤ). p +ℤ q) (+ℤ-idr (coeffIn c a y)) (+ℤ-idr (coeffIn c a x)) ∙ +ℤ-comm (coeffIn c a y) (coeffIn c a x) ∙ nothing c a)

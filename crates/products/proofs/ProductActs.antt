@@ -10,6 +10,8 @@ use lib.IntN.{ℤ, pos, negℤ, _+ℤ_}
 use Rattle.modes.specs.Bools.{_⊕_, same}
 use Rattle.modes.specs.Words.{Modes, bit, _△_, each}
 use Rattle.modes.specs.Counts.{odd, oddExchanges}
+use Rattle.modes.specs.Sums.{sumOf}
+use Rattle.modes.proofs.Sums.{sum-map}
 use Rattle.modes.specs.declared.Term.{Term}
 use Rattle.modes.proofs.Bools.{false-⊕, ⊕-assoc, ⊕-comm, of-same, at5, at6}
 use Rattle.modes.proofs.Sets.{odd-none, odd-exchanges-none, each-cong, each-and, each-all, each-at}
@@ -19,7 +21,7 @@ use Rattle.products.specs.Operators.{signed, adds, part, element}
 use Rattle.products.specs.Product.{fine, branch, signOf, choices, notEmpty, branching, creAt, annAt, minusAt, rowTimes, rowsTimes}
 use Rattle.products.proofs.ClosedForm.{fit, acts, acts-is, term-is, term-gone}
 use Rattle.products.proofs.Signs.{signed-zero, signed-signed, joined, two-signs, row-sign}
-use Rattle.products.proofs.Sums.{total, total-cong, Part, weigh, alternate, from, from-all}
+use Rattle.products.proofs.Sums.{sum-cong, Part, weigh, alternate, from, from-all}
 
 -- ---- mode by mode
 
@@ -58,12 +60,6 @@ flip-digit : (lc la rc ra s : Bool) → not s || branch lc la rc ra ≡ true →
 unfolding _⊕_
 flip-digit lc la rc ra s h f =
     of-same _ _ (mp _ _ (mp _ _ (at5 (λ lc la rc ra s. imp (not s || branch lc la rc ra) (imp (fine lc la rc ra) (same ((annD la rc ra || s) ⊕ (creD lc la rc || s)) (((ra ⊕ rc) ⊕ la) ⊕ lc)))) refl lc la rc ra s) h) f)
-
--- the element of a list of terms is the sum of their parts
-pub element-map : (bra ket : ℕ) (f : ℕ → Term) (l : List ℕ) → element bra ket (map f l) ≡ total (λ S. part bra ket (f S)) l
-unfolding element total
-element-map bra ket f [] = refl
-element-map bra ket f (S ∷ l) = ap (λ (x : ℤ). part bra ket (f S) +ℤ x) (element-map bra ket f l)
 
 -- ---- one product
 
@@ -229,9 +225,9 @@ module _ (Lc La Rc Ra : ℕ) where
           plumb false true = refl
           plumb false false = refl
 
-      rows-act : (bra k : ℕ) (z : ℤ) → total (λ S. part bra k (rowTimes Lc La Rc Ra z S)) (choices 64 0 branches 0) ≡ adds bra z (term Lc La (term Rc Ra (went k false)))
+      rows-act : (bra k : ℕ) (z : ℤ) → sumOf (λ S. part bra k (rowTimes Lc La Rc Ra z S)) (choices 64 0 branches 0) ≡ adds bra z (term Lc La (term Rc Ra (went k false)))
       rows-act bra k z =
-          total-cong 64 0 branches 0 _ _ refl none (λ q S h. one-row bra k z q S h)
+          sum-cong 64 0 branches 0 _ _ refl none (λ q S h. one-row bra k z q S h)
           ∙ alternate (bit k) (worth bra k z) 64 0 branches 0 refl none
           ∙ ap₂ (λ (b : Bool) (z : ℤ). cond b z (pos 0)) (from-all 64 _)
           (ap₂ (λ (b o : Bool). cond b (signed o (worth bra k z)) (pos 0)) (each-all 64 _ (λ i l. ap (λ (x : Bool). not x || bit k i) (bit-none i))) (odd-none 64 (bit 0) (λ i l. bit-none i)))
@@ -250,9 +246,9 @@ module _ (Lc La Rc Ra : ℕ) where
 
     -- the rows act, as a sum, as R and then L on every word, at every bra; where the product is empty, that is nothing everywhere
     pub product-acts : (bra ket : ℕ) (z : ℤ) → element bra ket (rowsTimes Lc La Rc Ra z) ≡ adds bra z (term Lc La (term Rc Ra (went ket false)))
-    unfolding rowsTimes element
+    unfolding rowsTimes sumOf
     product-acts bra ket z = go full refl
       where
         go : (b : Bool) → full ≡ b → element bra ket (cond b (map (rowTimes Lc La Rc Ra z) (choices 64 0 branches 0)) []) ≡ adds bra z (term Lc La (term Rc Ra (went ket false)))
-        go true e = element-map bra ket (rowTimes Lc La Rc Ra z) (choices 64 0 branches 0) ∙ rows-act (good-from e) hLc hLa hRc hRa bra ket z
+        go true e = sum-map (part bra ket) (rowTimes Lc La Rc Ra z) (choices 64 0 branches 0) ∙ rows-act (good-from e) hLc hLa hRc hRa bra ket z
         go false e = sym (ap (adds bra z) (empty-acts hLc hLa hRc hRa ket e))

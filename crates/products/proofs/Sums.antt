@@ -14,20 +14,13 @@ use borrow.Author.Tests.{ne-eqb, eq-eqb, eqb-true}
 use Rattle.modes.specs.Bools.{_⊕_, same}
 use Rattle.modes.specs.Words.{Modes, bit, each}
 use Rattle.modes.specs.Counts.{odd}
+use Rattle.modes.specs.Sums.{sumOf}
+use Rattle.modes.proofs.Sums.{sum-append}
 use Rattle.modes.proofs.Bools.{⊕-false, false-⊕, ⊕-assoc, ⊕-comm, of-same, at3, at4}
 use Rattle.modes.proofs.Sets.{odd-△, odd-none, each-cong, each-and}
 use Rattle.modes.proofs.Digits.{lt-or-ge, bit-xor, bits-xor, bit-pow}
 use Rattle.products.specs.Operators.{signed}
 use Rattle.products.specs.Product.{choices}
-
-unfoldable pub total : (ℕ → ℤ) → List ℕ → ℤ
-total f [] = pos 0
-total f (S ∷ l) = f S +ℤ total f l
-
-pub total-append : (f : ℕ → ℤ) (l m : List ℕ) → total f (l ++ m) ≡ total f l +ℤ total f m
-unfolding total
-total-append f [] m = sym (+ℤ-idl (total f m))
-total-append f (S ∷ l) m = ap (λ (x : ℤ). f S +ℤ x) (total-append f l m) ∙ sym (+ℤ-assoc (f S) (total f l) (total f m))
 
 ⊕-true : (a : Bool) → a ⊕ true ≡ not a
 unfolding _⊕_
@@ -75,18 +68,18 @@ part-more {p} {B} {S} h l e = record { inside = λ i. inn i (eqb i p) refl; abov
     inn i false q = rw (added S p i, q, ⊕-false (bit S i)) (h .inside i)
 
 -- two functions that agree on the parts of B have one sum
-pub total-cong : (n p : ℕ) (B : Modes) (S : ℕ) (f g : ℕ → ℤ) → p + n ≡ 64 → Part p B S → ((q S : ℕ) → Part q B S → f S ≡ g S) → total f (choices n p B S) ≡ total g (choices n p B S)
-unfolding choices total
-total-cong zero p B S f g k h e = ap (λ (x : ℤ). x +ℤ pos 0) (e p S h)
-total-cong (suc n) p B S f g k h e = go (λ S h. total-cong n (suc p) B S f g (omega arith) h e) (B p) refl
+pub sum-cong : (n p : ℕ) (B : Modes) (S : ℕ) (f g : ℕ → ℤ) → p + n ≡ 64 → Part p B S → ((q S : ℕ) → Part q B S → f S ≡ g S) → sumOf f (choices n p B S) ≡ sumOf g (choices n p B S)
+unfolding choices sumOf
+sum-cong zero p B S f g k h e = ap (λ (x : ℤ). x +ℤ pos 0) (e p S h)
+sum-cong (suc n) p B S f g k h e = go (λ S h. sum-cong n (suc p) B S f g (omega arith) h e) (B p) refl
   where
-    go : ((S : ℕ) → Part (suc p) B S → total f (choices n (suc p) B S) ≡ total g (choices n (suc p) B S)) → (b : Bool) → B p ≡ b
-        → total f (cond b (choices n (suc p) B S ++ choices n (suc p) B (bitXor S (2 ^ p))) (choices n (suc p) B S))
-        ≡ total g (cond b (choices n (suc p) B S ++ choices n (suc p) B (bitXor S (2 ^ p))) (choices n (suc p) B S))
+    go : ((S : ℕ) → Part (suc p) B S → sumOf f (choices n (suc p) B S) ≡ sumOf g (choices n (suc p) B S)) → (b : Bool) → B p ≡ b
+        → sumOf f (cond b (choices n (suc p) B S ++ choices n (suc p) B (bitXor S (2 ^ p))) (choices n (suc p) B S))
+        ≡ sumOf g (cond b (choices n (suc p) B S ++ choices n (suc p) B (bitXor S (2 ^ p))) (choices n (suc p) B S))
     go rec true q =
-        total-append f (choices n (suc p) B S) (choices n (suc p) B (bitXor S (2 ^ p)))
+        sum-append f (choices n (suc p) B S) (choices n (suc p) B (bitXor S (2 ^ p)))
         ∙ ap₂ (λ (x y : ℤ). x +ℤ y) (rec S (part-later h)) (rec (bitXor S (2 ^ p)) (part-more h (omega arith) q))
-        ∙ sym (total-append g (choices n (suc p) B S) (choices n (suc p) B (bitXor S (2 ^ p))))
+        ∙ sym (sum-append g (choices n (suc p) B S) (choices n (suc p) B (bitXor S (2 ^ p))))
     go rec false q = rec S (part-later h)
 
 -- ---- one mode more: the count of modes, and what holds at each
@@ -145,8 +138,8 @@ module _ (k : Modes) (Z : ℤ) where
       go false false o = refl
 
   pub alternate : (n p : ℕ) (B : Modes) (S : ℕ) → p + n ≡ 64 → Part p B S
-      → total weigh (choices n p B S) ≡ cond (from n p (λ i. not (B i && k i))) (weigh S) (pos 0)
-  unfolding total choices from
+      → sumOf weigh (choices n p B S) ≡ cond (from n p (λ i. not (B i && k i))) (weigh S) (pos 0)
+  unfolding sumOf choices from
   alternate zero p B S e h = +ℤ-idr (weigh S)
   alternate (suc n) p B S e h =
       go (λ S h. alternate n (suc p) B S (omega arith) h) (B p) refl
@@ -157,12 +150,12 @@ module _ (k : Modes) (Z : ℤ) where
       fin false true z = +ℤ-idr z
       fin false false z = refl
 
-      go : ((S : ℕ) → Part (suc p) B S → total weigh (choices n (suc p) B S) ≡ cond (from n (suc p) (λ i. not (B i && k i))) (weigh S) (pos 0))
+      go : ((S : ℕ) → Part (suc p) B S → sumOf weigh (choices n (suc p) B S) ≡ cond (from n (suc p) (λ i. not (B i && k i))) (weigh S) (pos 0))
           → (b : Bool) → B p ≡ b
-          → total weigh (cond b (choices n (suc p) B S ++ choices n (suc p) B (bitXor S (2 ^ p))) (choices n (suc p) B S))
+          → sumOf weigh (cond b (choices n (suc p) B S ++ choices n (suc p) B (bitXor S (2 ^ p))) (choices n (suc p) B S))
           ≡ cond (not (b && k p) && from n (suc p) (λ i. not (B i && k i))) (weigh S) (pos 0)
       go rec true q =
-          total-append weigh (choices n (suc p) B S) (choices n (suc p) B (bitXor S (2 ^ p)))
+          sum-append weigh (choices n (suc p) B S) (choices n (suc p) B (bitXor S (2 ^ p)))
           ∙ ap₂ (λ (x y : ℤ). x +ℤ y) (rec S (part-later h))
           (rec (bitXor S (2 ^ p)) (part-more h (omega arith) q)
           ∙ ap (λ (z : ℤ). cond (from n (suc p) (λ i. not (B i && k i))) z (pos 0)) (weigh-more B S p h (omega arith)))

@@ -1,9 +1,10 @@
 -- The element of an operator at (bra, ket): the sum of the signed coefficients of the terms that take ket to bra.
 use mathlib.Core.Bool.{Bool, true, false, cond}
-use mathlib.Core.List.{List, [], _∷_}
+use mathlib.Core.List.{List}
 use Prim.Native.Nat.{ℕ}
 use lib.Dec.{eqb}
-use lib.IntN.{ℤ, pos, negℤ, _+ℤ_}
+use lib.IntN.{ℤ, pos, negℤ}
+use Rattle.modes.specs.Sums.{sumOf}
 use Rattle.modes.specs.declared.Term.{Term}
 use Rattle.products.specs.PhaseRule.{Outcome, gone, went, term}
 
@@ -21,6 +22,5 @@ adds bra z (went w s) = cond (eqb w bra) (signed s z) (pos 0)
 abbrev pub part : ℕ → ℕ → Term → ℤ
 part bra ket t = adds bra (t .coeff) (term (t .cre) (t .ann) (went ket false))
 
-unfoldable pub element : ℕ → ℕ → List Term → ℤ
-element bra ket [] = pos 0
-element bra ket (t ∷ l) = part bra ket t +ℤ element bra ket l
+abbrev pub element : ℕ → ℕ → List Term → ℤ
+element bra ket ts = sumOf (part bra ket) ts

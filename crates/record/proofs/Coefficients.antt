@@ -1,12 +1,14 @@
 -- An ascending list of terms without zeros is known by its coefficients, so one operator has one canonical form.
 use mathlib.Core.Path.{_≡_, refl, sym, ap, ap₂, _∙_}
 use mathlib.Core.Bool.{true, and-false}
-use mathlib.Core.List.{List, [], _∷_, _++_}
+use mathlib.Core.List.{List, [], _∷_}
 use Prim.Native.Nat.{ℕ}
 use native.Mathlib.Omega.{arith}
 use lib.Dec.{eqb}
 use lib.IntN.{ℤ, pos, negℤ, _+ℤ_, +ℤ-idl, +ℤ-idr, +ℤ-assoc, +ℤ-invl}
 use borrow.Author.Tests.{eq-eqb, ne-eqb}
+use Rattle.modes.specs.Sums.{sumOf}
+use Rattle.modes.proofs.Sums.{sum-cons}
 use Rattle.modes.specs.declared.Term.{Term}
 use Rattle.lent.specs.Every.{Every, none, more}
 use Rattle.lent.proofs.RowLaws.{term-of}
@@ -19,15 +21,6 @@ use Rattle.record.proofs.Order.{Order, lower, level, order, Compared, l
 use Rattle.record.proofs.Accepted.{accepted-canonical}
 use Rattle.record.proofs.Inverse.{Small, same-bytes}
 
-pub coeff-cons : (c a : ℕ) (t : Term) (ts : List Term) → coeffOf c a (t ∷ ts) ≡ coeffIn c a t +ℤ coeffOf c a ts
-unfolding coeffOf
-coeff-cons c a t ts = refl
-
-pub coeff-append : (c a : ℕ) (ts us : List Term) → coeffOf c a (ts ++ us) ≡ coeffOf c a ts +ℤ coeffOf c a us
-unfolding coeffOf
-coeff-append c a [] us = sym (+ℤ-idl _)
-coeff-append c a (t ∷ ts) us = ap (λ (x : ℤ). coeffIn c a t +ℤ x) (coeff-append c a ts us) ∙ sym (+ℤ-assoc (coeffIn c a t) (coeffOf c a ts) (coeffOf c a us))
-
 -- a term that stands before another has other words
 other-words : (t u : Term) → before t u ≡ true → coeffIn (t .cre) (t .ann) u ≡ pos 0
 other-words t u e = go (order t u e)
@@ -37,12 +30,12 @@ other-words t u e = go (order t u e)
     go (level q h) = rw (ne-eqb (u .cre) (t .cre) (λ p. omega arith), and-false (eqb (u .ann) (t .ann)))
 
 pub above-none : (t : Term) (ts : List Term) → Above t ts → coeffOf (t .cre) (t .ann) ts ≡ pos 0
-unfolding coeffOf
+unfolding sumOf
 above-none t [] none = refl
 above-none t (u ∷ ts) (more h a) = rw (other-words t u h, above-none t ts a)
 
 pub own-coeff : (t : Term) (ts : List Term) → Above t ts → coeffOf (t .cre) (t .ann) (t ∷ ts) ≡ t .coeff
-unfolding coeffOf
+unfolding sumOf
 own-coeff t ts h = rw (eq-eqb (t .ann) (t .ann) refl, eq-eqb (t .cre) (t .cre) refl, above-none t ts h) (+ℤ-idr (t .coeff))
 
 pub cancel : (x y z : ℤ) → x +ℤ y ≡ x +ℤ z → y ≡ z
@@ -71,7 +64,7 @@ same-terms (t ∷ ts) (u ∷ us) (above h s) (above k r) (more n ns) (more m ms)
         let z : t ≡ u = term-of p q w in
         ap₂ {C = List Term} (λ (x : Term) (y : List Term). x ∷ y) z
         (rest (λ c a. cancel (coeffIn c a t) (coeffOf c a ts) (coeffOf c a us)
-        (sym (coeff-cons c a t ts) ∙ e c a ∙ coeff-cons c a u us ∙ ap (λ (x : Term). coeffIn c a x +ℤ coeffOf c a us) (sym z))))
+        (sym (sum-cons (coeffIn c a) t ts) ∙ e c a ∙ sum-cons (coeffIn c a) u us ∙ ap (λ (x : Term). coeffIn c a x +ℤ coeffOf c a us) (sym z))))
 
 -- two accepted records on one number of modes with the same coefficients are the same bytes
 pub same-record : (o p : ℕ) (k l : List ℕ) → Small k → Small l → (refusalOf o k) .number ≡ 0 → (refusalOf p l) .number ≡ 0

@@ -14,6 +14,7 @@ use borrow.Author.Tests.{ne-eqb, eq-eqb, lt-ltb, eqb-true, ltb-true, ltb-false}
 use Rattle.modes.specs.Bools.{_⊕_}
 use Rattle.modes.specs.Words.{Modes, bit}
 use Rattle.modes.specs.Counts.{count}
+use Rattle.modes.specs.Sums.{sumOf}
 use Rattle.modes.specs.declared.Term.{Term}
 use Rattle.modes.proofs.Bools.{⊕-false, false-⊕, ⊕-self, and-l, and-r}
 use Rattle.modes.proofs.Sets.{each-all, each-at}
@@ -142,7 +143,7 @@ module _ (C A : ℕ) (hA : A < 2 ^ 64) where
 
   -- what the terms with fewer annihilations add, and the coefficient of {C|A}
   element-is : (ts : List Term) → Every Wide ts → element C A ts ≡ element C A (fewer (count 64 (bit A)) ts) +ℤ signed own (coeffOf C A ts)
-  unfolding element fewer coeffOf
+  unfolding sumOf fewer
   element-is [] none = sym (+ℤ-idl _) ∙ ap (λ (x : ℤ). pos 0 +ℤ x) (sym (signed-zero own))
   element-is (t ∷ ts) (more h hs) = go (element-is ts hs) (ltb (annihilations t) (count 64 (bit A))) refl
     where
@@ -204,7 +205,7 @@ kept false y false true z F L h e = e ∙ sym (+ℤ-idl L)
 kept false y false false z F L h e = e
 
 coeff-fewer : (n c a : ℕ) (ts : List Term) → coeffOf c a (fewer n ts) ≡ cond (ltb (count 64 (bit a)) n) (coeffOf c a ts) (pos 0)
-unfolding fewer coeffOf
+unfolding fewer sumOf
 coeff-fewer n c a [] = go (ltb (count 64 (bit a)) n)
   where
     go : (b : Bool) → pos 0 ≡ cond b (pos 0) (pos 0)
@@ -228,7 +229,7 @@ fewer-all (t ∷ ts) = rw (lt-ltb (annihilations t) 65 (suc-le-suc (count-le 64 
 
 -- words outside m modes are no term's
 pub none-outside : (m c a : ℕ) (ts : List Term) → Every (Inside m) ts → (c < 2 ^ m → a < 2 ^ m → ⊥) → coeffOf c a ts ≡ pos 0
-unfolding coeffOf
+unfolding sumOf
 none-outside m c a [] none n = refl
 none-outside m c a (t ∷ ts) (more h hs) n = go (eqb (t .ann) a && eqb (t .cre) c) refl (none-outside m c a ts hs n)
   where

@@ -4,6 +4,5 @@ pub mod Apart
 pub mod Kept
 pub mod Order
 pub mod Shuffle
-pub mod Sums
 pub mod Sorted
 pub mod Steps

@@ -1,0 +1,24 @@
+-- Sums over lists: over two in turn, and over what a function makes of each.
+use mathlib.Core.Path.{_≡_, refl, sym, ap, _∙_}
+use mathlib.Core.List.{List, [], _∷_, _++_, map}
+use lib.IntN.{ℤ, pos, _+ℤ_, +ℤ-assoc, +ℤ-idl, +ℤ-idr}
+use Rattle.modes.specs.Sums.{sumOf}
+
+pub sum-cons : {A : Type 0} (w : A → ℤ) (x : A) (l : List A) → sumOf w (x ∷ l) ≡ w x +ℤ sumOf w l
+unfolding sumOf
+sum-cons w x l = refl
+
+pub sum-append : {A : Type 0} (w : A → ℤ) (l m : List A) → sumOf w (l ++ m) ≡ sumOf w l +ℤ sumOf w m
+unfolding sumOf
+sum-append w [] m = sym (+ℤ-idl (sumOf w m))
+sum-append w (x ∷ l) m = ap (λ (z : ℤ). w x +ℤ z) (sum-append w l m) ∙ sym (+ℤ-assoc (w x) (sumOf w l) (sumOf w m))
+
+-- one more at the end
+pub sum-last : {A : Type 0} (w : A → ℤ) (l : List A) (x : A) → sumOf w (l ++ (x ∷ [])) ≡ sumOf w l +ℤ w x
+unfolding sumOf
+sum-last w l x = sum-append w l (x ∷ []) ∙ ap (λ (z : ℤ). sumOf w l +ℤ z) (+ℤ-idr (w x))
+
+pub sum-map : {A B : Type 0} (w : B → ℤ) (f : A → B) (l : List A) → sumOf w (map f l) ≡ sumOf (λ x. w (f x)) l
+unfolding sumOf
+sum-map w f [] = refl
+sum-map w f (x ∷ l) = ap (λ (z : ℤ). w (f x) +ℤ z) (sum-map w f l)
