@@ -29,104 +29,52 @@ abbrev do-branch-below : ℕ → In 1 do-branch-kinds.ps
 do-branch-below t =
     and 1 do-branch-kinds.ps (falls 1 do-branch-kinds.ps _<_ μ-do-branch t) do-branch.Pre
 
-do-branch-put-row-requires : (t : ℕ) → do-branch-lts.Need-put-row-requires (
+-- what each callee asks and what it gives
+abbrev claims : ℕ → do-branch-lts.Claims
+claims t = (
   put-row-reads.Asked,
   put-row-reads.Learnt,
   keep-reads.Asked,
   keep-reads.Learnt,
   do-branch-below t,
   do-branch.Post,
-) (do-branch-at t) do-branch.Post
+)
+
+do-branch-put-row-requires : (t : ℕ) → do-branch-lts.Need-put-row-requires (claims t) (do-branch-at t) do-branch.Post
 do-branch-put-row-requires t c κs =
     let s = c .before .before .before in
     let one : 2 ^ count 64 (bit (s .args .left)) ≡ 1 = rw (none-left (s .args .left) (c .before .if1 .taken)) in omega (arith, s .pre .1 .0)
 
-do-branch-add-result : (t : ℕ) → do-branch-lts.Need-add-result (
-  put-row-reads.Asked,
-  put-row-reads.Learnt,
-  keep-reads.Asked,
-  keep-reads.Learnt,
-  do-branch-below t,
-  do-branch.Post,
-) (do-branch-at t) do-branch.Post
+do-branch-add-result : (t : ℕ) → do-branch-lts.Need-add-result (claims t) (do-branch-at t) do-branch.Post
 do-branch-add-result t c = search needs
 
-do-branch-same-length : (t : ℕ) → do-branch-lts.Need-same-length (
-  put-row-reads.Asked,
-  put-row-reads.Learnt,
-  keep-reads.Asked,
-  keep-reads.Learnt,
-  do-branch-below t,
-  do-branch.Post,
-) (do-branch-at t) do-branch.Post
+do-branch-same-length : (t : ℕ) → do-branch-lts.Need-same-length (claims t) (do-branch-at t) do-branch.Post
 do-branch-same-length t c = search needs
 
-do-branch-returns : (t : ℕ) → do-branch-lts.Need-returns (
-  put-row-reads.Asked,
-  put-row-reads.Learnt,
-  keep-reads.Asked,
-  keep-reads.Learnt,
-  do-branch-below t,
-  do-branch.Post,
-) (do-branch-at t) do-branch.Post
+do-branch-returns : (t : ℕ) → do-branch-lts.Need-returns (claims t) (do-branch-at t) do-branch.Post
 do-branch-returns t c =
     let s = c .before .before .before .before .before .before in
     let zero-left = c .before .before .before .before .if1 .taken in
     let one : 2 ^ count 64 (bit (s .args .left)) ≡ 1 = rw (none-left (s .args .left) zero-left) in
     (omega arith, c .before .before .put-row .ensures ∙ ap (put (s .args .out .now) (s .args .at)) (sym (walk-none (s .args .left) (s .args .row) zero-left)))
 
-do-branch-sub-less : (t : ℕ) → do-branch-lts.Need-sub-less (
-  put-row-reads.Asked,
-  put-row-reads.Learnt,
-  keep-reads.Asked,
-  keep-reads.Learnt,
-  do-branch-below t,
-  do-branch.Post,
-) (do-branch-at t) do-branch.Post
+do-branch-sub-less : (t : ℕ) → do-branch-lts.Need-sub-less (claims t) (do-branch-at t) do-branch.Post
 do-branch-sub-less t c = omega arith
 
-do-branch-sub-keep : (t : ℕ) → do-branch-lts.Need-sub-keep (
-  put-row-reads.Asked,
-  put-row-reads.Learnt,
-  keep-reads.Asked,
-  keep-reads.Learnt,
-  do-branch-below t,
-  do-branch.Post,
-) (do-branch-at t) do-branch.Post
+do-branch-sub-keep : (t : ℕ) → do-branch-lts.Need-sub-keep (claims t) (do-branch-at t) do-branch.Post
 do-branch-sub-keep t c = and-le-l (c .before .before .args .left) (c .before .before .args .left - 1)
 
-do-branch-keep-requires : (t : ℕ) → do-branch-lts.Need-keep-requires (
-  put-row-reads.Asked,
-  put-row-reads.Learnt,
-  keep-reads.Asked,
-  keep-reads.Learnt,
-  do-branch-below t,
-  do-branch.Post,
-) (do-branch-at t) do-branch.Post
+do-branch-keep-requires : (t : ℕ) → do-branch-lts.Need-keep-requires (claims t) (do-branch-at t) do-branch.Post
 do-branch-keep-requires t c κs =
     let s = c .before .before in (one-left (s .args .left) (omega arith) (s .fits .left .fits), s .pre .1 .1)
 
-do-branch-do-branch-requires : (t : ℕ) → do-branch-lts.Need-do-branch-requires (
-  put-row-reads.Asked,
-  put-row-reads.Learnt,
-  keep-reads.Asked,
-  keep-reads.Learnt,
-  do-branch-below t,
-  do-branch.Post,
-) (do-branch-at t) do-branch.Post
+do-branch-do-branch-requires : (t : ℕ) → do-branch-lts.Need-do-branch-requires (claims t) (do-branch-at t) do-branch.Post
 do-branch-do-branch-requires t c κs =
     let s = c .before .before .before .before in
     let some : 0 < s .args .left = omega (arith, c .before .before .if1 .left) in
     (omega (arith, s .pre .0, less-lt (s .args .left) some), (omega (arith, s .pre .1 .0, twice-left (s .args .left) some (s .fits .left .fits)), s .pre .1 .1))
 
-do-branch-do-branch-requires-2 : (t : ℕ) → do-branch-lts.Need-do-branch-requires-2 (
-  put-row-reads.Asked,
-  put-row-reads.Learnt,
-  keep-reads.Asked,
-  keep-reads.Learnt,
-  do-branch-below t,
-  do-branch.Post,
-) (do-branch-at t) do-branch.Post
+do-branch-do-branch-requires-2 : (t : ℕ) → do-branch-lts.Need-do-branch-requires-2 (claims t) (do-branch-at t) do-branch.Post
 do-branch-do-branch-requires-2 t c κs =
     let s = c .before .before .before .before .before .before .before .before in
     let some : 0 < s .args .left = omega (arith, c .before .before .before .before .before .before .if1 .left) in
@@ -138,24 +86,10 @@ do-branch-do-branch-requires-2 t c κs =
       ),
     )
 
-do-branch-same-length-2 : (t : ℕ) → do-branch-lts.Need-same-length-2 (
-  put-row-reads.Asked,
-  put-row-reads.Learnt,
-  keep-reads.Asked,
-  keep-reads.Learnt,
-  do-branch-below t,
-  do-branch.Post,
-) (do-branch-at t) do-branch.Post
+do-branch-same-length-2 : (t : ℕ) → do-branch-lts.Need-same-length-2 (claims t) (do-branch-at t) do-branch.Post
 do-branch-same-length-2 t c = search needs
 
-do-branch-returns-2 : (t : ℕ) → do-branch-lts.Need-returns-2 (
-  put-row-reads.Asked,
-  put-row-reads.Learnt,
-  keep-reads.Asked,
-  keep-reads.Learnt,
-  do-branch-below t,
-  do-branch.Post,
-) (do-branch-at t) do-branch.Post
+do-branch-returns-2 : (t : ℕ) → do-branch-lts.Need-returns-2 (claims t) (do-branch-at t) do-branch.Post
 do-branch-returns-2 t c =
     let s = c .before .before .before .before .before .before .before .before .before .before .before in
     let some : 0 < s .args .left = omega (arith, c .before .before .before .before .before .before .before .before .before .if1 .left) in
@@ -167,14 +101,8 @@ do-branch-returns-2 t c =
     )
 
 pub +do-branch-spec : {M : Type 1} → statement M
-+do-branch-spec = close μ-do-branch λ t. do-branch-lts.spec (
-  put-row-reads.Asked,
-  put-row-reads.Learnt,
-  keep-reads.Asked,
-  keep-reads.Learnt,
-  do-branch-below t,
-  do-branch.Post,
-)
++do-branch-spec = close μ-do-branch λ t. do-branch-lts.spec
+    (claims t)
     (do-branch-at t)
     do-branch.Post
     (do-branch-put-row-requires t)
