@@ -16,11 +16,10 @@ use Rattle.modes.specs.declared.Term.{Term}
 use Rattle.lent.specs.Every.{Every, none, more}
 use Rattle.lent.proofs.RowLaws.{term-of}
 use Rattle.record.specs.Terms.{before, Above, Ascending, empty, above}
-use Rattle.record.specs.Blocks.{countIf}
-use Rattle.record.proofs.Order.{before-trans, before-one-way}
-use Rattle.record.proofs.Blocks.{Downward}
+use Rattle.record.specs.Blocks.{countIf, earlier}
+use Rattle.record.proofs.Order.{before-one-way}
 use Rattle.adjoint.specs.Adjoint.{adjointTerm, inserted, adjointTerms}
-use Rattle.adjoint.specs.Hermitian.{earlier, Among, Paired, Tells}
+use Rattle.adjoint.specs.Hermitian.{Among, Paired, Tells}
 use Rattle.adjoint.proofs.Terms.{by-order, every-adjoint, ascending-adjoint, adjoint-twice}
 use Rattle.adjoint.proofs.Writing.{every-drop, take-one-more}
 
@@ -126,9 +125,6 @@ pairing-ends ts i h p =
     record { yes = λ z. rw (take-all i ts h) at p; no = λ z. absurd (true≢false z) }
 
 -- ---- the search
-
-pub earlier-downward : (t : Term) → Downward (earlier t)
-earlier-downward t u v e h = before-trans u v t e h
 
 none-earlier : (t : Term) (ts : List Term) → Above t ts → countIf (earlier t) ts ≡ 0
 unfolding countIf

@@ -7,7 +7,6 @@ use Prim.Native.Nat.{ℕ}
 use lib.Dec.{eqb}
 use Rattle.modes.specs.declared.Term.{Term}
 use Rattle.lent.specs.Every.{Every}
-use Rattle.record.specs.Terms.{before}
 use Rattle.record.specs.Numbers.{sameNumbers}
 use Rattle.record.specs.Refusals.{refusalOf}
 use Rattle.record.specs.declared.Tested.{Tested}
@@ -16,10 +15,6 @@ use Rattle.adjoint.specs.Adjoint.{adjointTerm, adjointBytes}
 -- what `is_hermitian` answers; false where the record is refused
 unfoldable pub hermitianOf : List ℕ → Tested
 hermitianOf l = record { refusal = refusalOf 1 l; holds = eqb ((refusalOf 1 l) .number) 0 && sameNumbers (adjointBytes l) l }
-
--- u stands before t
-abbrev pub earlier : Term → Term → Bool
-earlier t u = before u t
 
 -- t is one of the terms
 abbrev pub Among : Term → List Term → Type 0

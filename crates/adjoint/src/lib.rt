@@ -17,9 +17,8 @@ ghost use Rattle.lent.specs.Outputs.{Gives};
 ghost use Rattle.record.specs.Terms.{Ascending};
 ghost use Rattle.record.specs.Layout.{columns, encode, termsIn};
 ghost use Rattle.record.specs.Canonical.{Canonical};
-ghost use Rattle.record.specs.Blocks.{countIf};
 ghost use Rattle.adjoint.specs.Adjoint.{Negatable, adjointTerm, adjointTerms, adjointed};
-ghost use Rattle.adjoint.specs.Hermitian.{earlier, Among, Paired, Tells, hermitianOf};
+ghost use Rattle.adjoint.specs.Hermitian.{Among, Paired, Tells, hermitianOf};
 
 // The number of pairs of the word's modes.
 fn pairs_in(word: u64) -> u32
@@ -100,25 +99,6 @@ pub fn adjoint(a: &[u8], out: &mut [u8]) -> Written
     }
 }
 
-// How many of the n terms stand before t, found by halving.
-fn count_before(s: &[u8], n: usize, t: Term) -> usize
-    requires { ⌜ (32 + 24 * n ≤ length (now s)) × Ascending (termsIn (now s) n) ⌝ }
-    ensures { λ r. ⌜ r ≡ countIf (earlier t) (termsIn (now (s .entry)) n) ⌝ }
-{
-    let mut low = 0;
-    let mut high = n;
-    while low < high {
-        let middle = low + (high - low) / 2;
-        let u = record::read_term(s, n, middle);
-        if record::is_before(u, t) {
-            low = middle + 1;
-        } else {
-            high = middle;
-        }
-    }
-    low
-}
-
 // Are the two one term?
 fn is_same(t: Term, u: Term) -> bool
     ensures { λ r. ⌜ Tells r (t ≡ u) ⌝ }
@@ -137,7 +117,7 @@ fn has_term(s: &[u8], n: usize, t: Term) -> bool
     requires { ⌜ (32 + 24 * n ≤ length (now s)) × Ascending (termsIn (now s) n) ⌝ }
     ensures { λ r. ⌜ Tells r (Among t (termsIn (now (s .entry)) n)) ⌝ }
 {
-    let i = count_before(s, n, t);
+    let i = record::count_before(s, n, t);
     if n <= i {
         return false;
     }

@@ -1,33 +1,34 @@
 -- The terms with one annihilation word in an ascending list: halving finds them, and their stretch holds their creations.
 use mathlib.Core.Path.{_≡_, refl, sym, ap, _∙_}
-use mathlib.Core.Bool.{Bool, true, false, cond, true≢false}
+use mathlib.Core.Bool.{Bool, true, false, cond, _&&_, _||_, true≢false}
 use mathlib.Core.List.{List, [], _∷_, _++_, map}
 use mathlib.Core.Logic.{_⊎_, inl, inr}
-use Prim.Native.Nat.{ℕ, zero, suc, _+_, _*_, _-_, _≤_, _<_, zero-le}
+use Prim.Native.Nat.{ℕ, zero, suc, _+_, _*_, _-_, _^_, _≤_, _<_, zero-le}
 use native.Mathlib.Omega.{arith}
 use native.Mathlib.Nat.{mul-suc}
 use native.Mathlib.Numerals.{add-one}
-use lib.Dec.{eqb, ltb, leb}
+use lib.Dec.{eqb, ltb}
 use lib.ListN.{length, take, drop, take-append-drop}
 use lib.Seq.{drop-nil, take-nil, take-take, drop-drop, take-append-add, drop-append-add}
-use borrow.Author.Tests.{eq-eqb, ne-eqb, lt-ltb, le-ltb, le-leb, lt-leb, ltb-true, leb-true, eqb-true}
+use borrow.Author.Tests.{eq-eqb, ne-eqb, lt-ltb, le-ltb, ltb-true, eqb-true}
 use Rattle.modes.specs.declared.Term.{Term}
 use Rattle.modes.proofs.Digits.{lt-or-ge}
-use Rattle.lent.specs.Bytes.{bytes}
-use Rattle.lent.specs.Every.{none, more}
+use Rattle.lent.specs.Bytes.{bytes, wordAt}
+use Rattle.lent.specs.Every.{Every, none, more}
 use Rattle.lent.proofs.Numbers.{length-bytes}
-use Rattle.record.specs.Numbers.{stored}
+use Rattle.lent.proofs.NumbersAt.{num-at-below}
+use Rattle.record.specs.Numbers.{stored, numbers}
 use Rattle.record.specs.Terms.{before, Above, Ascending, empty, above}
-use Rattle.record.specs.Layout.{column, countOf, termsIn, termsOf}
+use Rattle.record.specs.Layout.{column, countOf, together, termsIn, termsOf}
 use Rattle.record.specs.Refusals.{refusalOf}
 use Rattle.record.specs.Reading.{At}
-use Rattle.record.specs.Blocks.{countIf, upTo, firstOf, pastOf, emptyStretch, stretch, blockOf, bytesIn}
+use Rattle.record.specs.Blocks.{countIf, earlier, annBelow, firstOf, pastOf, emptyStretch, stretch, blockOf, bytesIn}
 use Rattle.record.specs.declared.Stretch.{Stretch}
 use Rattle.record.specs.declared.Checked.{Checked}
-use Rattle.record.proofs.Reading.{length-terms}
+use Rattle.record.proofs.Reading.{columnsAt, length-terms}
 use Rattle.record.proofs.Accepted.{Accepted, accepted-laid, accepted-canonical}
 use Rattle.record.proofs.Inverse.{Small, creations-read}
-use Rattle.record.proofs.Order.{Order, lower, level, order}
+use Rattle.record.proofs.Order.{Order, lower, level, order, before-trans}
 
 -- ---- counting
 
@@ -56,8 +57,18 @@ count-more p q (t ∷ ts) h = go (p t) (q t) (h t) (count-more p q ts h)
     go false true k l = omega arith
     go false false k l = omega arith
 
-pub first-below-past : (a : ℕ) (ts : List Term) → countIf (upTo false a) ts ≤ countIf (upTo true a) ts
-first-below-past a ts = count-more (upTo false a) (upTo true a) ts (λ t e. le-leb (t .ann) a (omega (arith, ltb-true (t .ann) a e)))
+count-same : (p q : Term → Bool) (ts : List Term) → ((t : Term) → p t ≡ q t) → countIf p ts ≡ countIf q ts
+unfolding countIf
+count-same p q [] h = refl
+count-same p q (t ∷ ts) h = rw (h t, count-same p q ts h)
+
+count-all : (p : Term → Bool) (ts : List Term) → Every (λ t. p t ≡ true) ts → countIf p ts ≡ length ts
+unfolding countIf
+count-all p [] none = refl
+count-all p (t ∷ ts) (more h hs) = rw (h, count-all p ts hs) (omega arith)
+
+pub first-below-past : (a : ℕ) (ts : List Term) → countIf (annBelow a) ts ≤ countIf (annBelow (a + 1)) ts
+first-below-past a ts = count-more (annBelow a) (annBelow (a + 1)) ts (λ t e. lt-ltb (t .ann) (a + 1) (omega (arith, ltb-true (t .ann) a e)))
 
 -- what holds of a term holds of those before it
 abbrev pub Downward : (Term → Bool) → Type 0
@@ -70,9 +81,11 @@ ann-below t u e = go (order t u e)
     go (lower h) = omega arith
     go (level q h) = omega arith
 
-up-to-downward : (past : Bool) (a : ℕ) → Downward (upTo past a)
-up-to-downward true a t u e h = le-leb (t .ann) a (omega (arith, ann-below t u e, leb-true (u .ann) a h))
-up-to-downward false a t u e h = lt-ltb (t .ann) a (omega (arith, ann-below t u e, ltb-true (u .ann) a h))
+below-downward : (a : ℕ) → Downward (annBelow a)
+below-downward a t u e h = lt-ltb (t .ann) a (omega (arith, ann-below t u e, ltb-true (u .ann) a h))
+
+pub earlier-downward : (t : Term) → Downward (earlier t)
+earlier-downward t u v e h = before-trans u v t e h
 
 above-at : (x t : Term) (ts us : List Term) (i : ℕ) → Above x ts → drop i ts ≡ t ∷ us → before x t ≡ true
 above-at x t [] us i none e = let z : _≡_ {A = List Term} [] (t ∷ us) = sym (drop-nil i) ∙ e in let w : _≡_ {A = ℕ} 0 1 = cc in absurd (omega arith)
@@ -124,13 +137,6 @@ module _ (p : Term → Bool) (down : Downward p) (ts : List Term) (s : Ascending
   pub halving-falls : p t ≡ false → Halving p ts low i
   halving-falls h = record { before = g .before; after = none-after p down ts _ t i s at h }
 
-module _ (past : Bool) (a : ℕ) (ts : List Term) (s : Ascending ts) (low high i : ℕ) (t : Term) (at : At ts i t) (g : Halving (upTo past a) ts low high) where
-  pub halving-up : upTo past a t ≡ true → Halving (upTo past a) ts (i + 1) high
-  halving-up = halving-rises (upTo past a) (up-to-downward past a) ts s low high i t at g
-
-  pub halving-down : upTo past a t ≡ false → Halving (upTo past a) ts low i
-  halving-down = halving-falls (upTo past a) (up-to-downward past a) ts s low high i t at g
-
 pub halving-ends : (p : Term → Bool) (ts : List Term) (low high : ℕ) → high ≡ low → Halving p ts low high → low ≡ countIf p ts
 halving-ends p ts low high e g =
     let after : countIf p (drop low ts) ≡ 0 = ap (λ (k : ℕ). countIf p (drop k ts)) (sym e) ∙ g .after in
@@ -138,8 +144,34 @@ halving-ends p ts low high e g =
 
 -- ---- the bounds
 
-pub past-inside : (l : List ℕ) (n a : ℕ) (past : Bool) → countIf (upTo past a) (termsIn l n) ≤ n
-past-inside l n a past = let h = count-length (upTo past a) (termsIn l n) in let e = length-terms l n in omega arith
+before-bare : (t u : Term) → t .cre ≡ 0 → before u t ≡ ltb (u .ann) (t .ann)
+unfolding before
+before-bare t u e = rw (e, le-ltb (u .cre) 0 zero-le) (go (ltb (u .ann) (t .ann)) (eqb (u .ann) (t .ann)))
+  where
+    go : (b c : Bool) → b || (c && false) ≡ b
+    go true c = refl
+    go false true = refl
+    go false false = refl
+
+-- before a term without creations stand those with a lower annihilation word
+pub count-earlier : (t : Term) (ts : List Term) → t .cre ≡ 0 → countIf (earlier t) ts ≡ countIf (annBelow (t .ann)) ts
+count-earlier t ts e = count-same (earlier t) (annBelow (t .ann)) ts (λ u. before-bare t u e)
+
+-- a word of 8 bytes is below 2^64
+words-below : (l : List ℕ) (b : ℕ) → Small l → 2 ^ 64 ≤ b → (a c z n : ℕ) → a + 8 * n ≤ length l → Every (λ t. annBelow b t ≡ true) (columnsAt l a c z n)
+unfolding together numbers
+words-below l b small w a c z zero h = none
+words-below l b small w a c z (suc n) h =
+    let m : 8 * suc n ≡ 8 * n + 8 = mul-suc 8 n in
+    more (lt-ltb (wordAt l a) b (omega (arith, num-at-below 8 l a (omega arith) small))) (words-below l b small w (a + 8) (c + 8) (z + 8) n (omega arith))
+
+pub count-every : (l : List ℕ) (n b : ℕ) → Small l → 32 + 24 * n ≤ length l → 2 ^ 64 ≤ b → n ≡ countIf (annBelow b) (termsIn l n)
+unfolding termsIn
+count-every l n b small h w =
+    sym (count-all (annBelow b) (termsIn l n) (words-below l b small w 32 (32 + 8 * n) (32 + 16 * n) n (omega arith)) ∙ length-terms l n)
+
+pub past-inside : (l : List ℕ) (n a : ℕ) → countIf (annBelow a) (termsIn l n) ≤ n
+past-inside l n a = let h = count-length (annBelow a) (termsIn l n) in let e = length-terms l n in omega arith
 
 pub stretch-none : (n f p : ℕ) → f ≡ p → emptyStretch ≡ stretch n f p
 stretch-none n f p e = rw (eq-eqb _ _ e)
@@ -151,17 +183,17 @@ pub block-refused : (l : List ℕ) (a : ℕ) → ((refusalOf 1 l) .number ≡ 0 
 unfolding blockOf
 block-refused l a h = rw (ne-eqb _ _ h)
 
-pub block-found : (l : List ℕ) (a : ℕ) (c : Checked) → Accepted 1 l c → (f p : ℕ) → f ≡ countIf (upTo false a) (termsIn l (c .terms))
-    → p ≡ countIf (upTo true a) (termsIn l (c .terms)) → stretch (c .terms) f p ≡ blockOf l a
+pub block-found : (l : List ℕ) (a : ℕ) (c : Checked) → Accepted 1 l c → (f p : ℕ) → f ≡ countIf (annBelow a) (termsIn l (c .terms))
+    → p ≡ countIf (annBelow (a + 1)) (termsIn l (c .terms)) → stretch (c .terms) f p ≡ blockOf l a
 unfolding blockOf
 block-found l a c k f p ef ep = rw (k .none, ef, ep, k .terms, ap (λ (d : Checked). d .terms) (k .is))
 
-pub block-bounded : (l : List ℕ) (a : ℕ) (c : Checked) → Accepted 1 l c → (f p : ℕ) → f ≡ countIf (upTo false a) (termsIn l (c .terms))
-    → p ≡ countIf (upTo true a) (termsIn l (c .terms)) → (c .terms ≤ 2048) × (f ≤ p) × (p ≤ c .terms)
+pub block-bounded : (l : List ℕ) (a : ℕ) (c : Checked) → Accepted 1 l c → (f p : ℕ) → f ≡ countIf (annBelow a) (termsIn l (c .terms))
+    → p ≡ countIf (annBelow (a + 1)) (termsIn l (c .terms)) → (c .terms ≤ 2048) × (f ≤ p) × (p ≤ c .terms)
 block-bounded l a c k f p ef ep = (
   omega (arith, k .laid .few, ap (λ (d : Checked). d .terms) (k .is)),
   omega (arith, first-below-past a (termsIn l (c .terms))),
-  omega (arith, past-inside l (c .terms) a true),
+  omega (arith, past-inside l (c .terms) (a + 1)),
 )
 
 -- the stretch lies within the record
@@ -176,7 +208,7 @@ block-inside l a = go (eqb ((refusalOf 1 l) .number) 0) refl (eqb (firstOf l a) 
     go true e true = zero-le
     go true e false =
         let k = accepted-laid 1 l (eqb-true _ _ e) .size in
-        let p = past-inside l (countOf l) a true in
+        let p = past-inside l (countOf l) (a + 1) in
         let f = first-below-past a (termsOf l) in
         omega arith
     go false e d = zero-le
@@ -195,30 +227,30 @@ none-having a t (u ∷ ts) h (more b s) = rw (ne-eqb (u .ann) a (λ e. omega (ar
 
 -- in an ascending list they stand together
 pub having-is : (a : ℕ) (ts : List Term) → Ascending ts
-    → having a ts ≡ take (countIf (upTo true a) ts - countIf (upTo false a) ts) (drop (countIf (upTo false a) ts) ts)
+    → having a ts ≡ take (countIf (annBelow (a + 1)) ts - countIf (annBelow a) ts) (drop (countIf (annBelow a) ts) ts)
 unfolding having countIf
 having-is a [] empty = refl
 having-is a (t ∷ ts) (above b s) = go (having-is a ts s) (lt-or-ge (t .ann) a) (lt-or-ge a (t .ann))
   where
-    go : having a ts ≡ take (countIf (upTo true a) ts - countIf (upTo false a) ts) (drop (countIf (upTo false a) ts) ts)
+    go : having a ts ≡ take (countIf (annBelow (a + 1)) ts - countIf (annBelow a) ts) (drop (countIf (annBelow a) ts) ts)
         → (t .ann < a) ⊎ (a ≤ t .ann) → (a < t .ann) ⊎ (t .ann ≤ a)
         → cond (eqb (t .ann) a) (t ∷ having a ts) (having a ts)
-        ≡ take ((cond (leb (t .ann) a) 1 0 + countIf (upTo true a) ts) - (cond (ltb (t .ann) a) 1 0 + countIf (upTo false a) ts))
-        (drop (cond (ltb (t .ann) a) 1 0 + countIf (upTo false a) ts) (t ∷ ts))
+        ≡ take ((cond (ltb (t .ann) (a + 1)) 1 0 + countIf (annBelow (a + 1)) ts) - (cond (ltb (t .ann) a) 1 0 + countIf (annBelow a) ts))
+        (drop (cond (ltb (t .ann) a) 1 0 + countIf (annBelow a) ts) (t ∷ ts))
     go ih (inl h) k =
-        let d : 1 + countIf (upTo false a) ts ≡ suc (countIf (upTo false a) ts) = omega arith in
-        let m : (1 + countIf (upTo true a) ts) - suc (countIf (upTo false a) ts) ≡ countIf (upTo true a) ts - countIf (upTo false a) ts = omega arith in
-        rw (ne-eqb (t .ann) a (λ e. omega arith), le-leb (t .ann) a (omega arith), lt-ltb (t .ann) a h, d, m) ih
+        let d : 1 + countIf (annBelow a) ts ≡ suc (countIf (annBelow a) ts) = omega arith in
+        let m : (1 + countIf (annBelow (a + 1)) ts) - suc (countIf (annBelow a) ts) ≡ countIf (annBelow (a + 1)) ts - countIf (annBelow a) ts = omega arith in
+        rw (ne-eqb (t .ann) a (λ e. omega arith), lt-ltb (t .ann) (a + 1) (omega arith), lt-ltb (t .ann) a h, d, m) ih
     go ih (inr h) (inl k) =
-        let f : countIf (upTo false a) ts ≡ 0 = none-above (upTo false a) (up-to-downward false a) t ts (le-ltb (t .ann) a h) b in
-        let p : countIf (upTo true a) ts ≡ 0 = none-above (upTo true a) (up-to-downward true a) t ts (lt-leb (t .ann) a k) b in
-        rw (ne-eqb (t .ann) a (λ e. omega arith), lt-leb (t .ann) a k, le-ltb (t .ann) a h, f, p) (none-having a t ts k b)
+        let f : countIf (annBelow a) ts ≡ 0 = none-above (annBelow a) (below-downward a) t ts (le-ltb (t .ann) a h) b in
+        let p : countIf (annBelow (a + 1)) ts ≡ 0 = none-above (annBelow (a + 1)) (below-downward (a + 1)) t ts (le-ltb (t .ann) (a + 1) (omega arith)) b in
+        rw (ne-eqb (t .ann) a (λ e. omega arith), le-ltb (t .ann) (a + 1) (omega arith), le-ltb (t .ann) a h, f, p) (none-having a t ts k b)
     go ih (inr h) (inr k) =
-        let f : countIf (upTo false a) ts ≡ 0 = none-above (upTo false a) (up-to-downward false a) t ts (le-ltb (t .ann) a h) b in
-        let z : countIf (upTo true a) ts - 0 ≡ countIf (upTo true a) ts = omega arith in
-        let m : (1 + countIf (upTo true a) ts) - 0 ≡ suc (countIf (upTo true a) ts) = omega arith in
-        let rest : having a ts ≡ take (countIf (upTo true a) ts) ts = rw (f, z) at ih in
-        rw (eq-eqb (t .ann) a (omega arith), le-leb (t .ann) a k, le-ltb (t .ann) a h, f, m) (ap (λ (us : List Term). t ∷ us) rest)
+        let f : countIf (annBelow a) ts ≡ 0 = none-above (annBelow a) (below-downward a) t ts (le-ltb (t .ann) a h) b in
+        let z : countIf (annBelow (a + 1)) ts - 0 ≡ countIf (annBelow (a + 1)) ts = omega arith in
+        let m : (1 + countIf (annBelow (a + 1)) ts) - 0 ≡ suc (countIf (annBelow (a + 1)) ts) = omega arith in
+        let rest : having a ts ≡ take (countIf (annBelow (a + 1)) ts) ts = rw (f, z) at ih in
+        rw (eq-eqb (t .ann) a (omega arith), lt-ltb (t .ann) (a + 1) (omega arith), le-ltb (t .ann) a h, f, m) (ap (λ (us : List Term). t ∷ us) rest)
 
 drop-take : {A : Type 0} (i k : ℕ) (l : List A) → drop i (take k l) ≡ take (k - i) (drop i l)
 drop-take zero k l = let e : k - 0 ≡ k = omega arith in rw e
@@ -269,4 +301,4 @@ block-words l a small e =
     let size = accepted-laid 1 l e .size in
     let whole = creations-read l small (countOf l) (omega arith) in
     rw (eq-eqb _ _ e, having-is a (termsOf l) (accepted-canonical 1 l e .ascending))
-    (stretch-bytes l (countOf l) (firstOf l a) (pastOf l a) whole (first-below-past a (termsOf l)) (past-inside l (countOf l) a true))
+    (stretch-bytes l (countOf l) (firstOf l a) (pastOf l a) whole (first-below-past a (termsOf l)) (past-inside l (countOf l) (a + 1)))

@@ -14,7 +14,7 @@ use Rattle.record.specs.Layout.{header, termsIn, putTerm}
 use Rattle.record.specs.Refusals.{checkedOf}
 use Rattle.record.specs.Reading.{At}
 use Rattle.record.specs.Weights.{heavierBy}
-use Rattle.record.specs.Blocks.{blockOf, bytesIn}
+use Rattle.record.specs.Blocks.{countIf, earlier, blockOf, bytesIn}
 use Rattle.record.specs.Figures.{rankOf, conservesOf, maxNBodyOf, activeModesOf}
 use Rattle.record.specs.declared.Checked.{Checked}
 use Rattle.record.specs.declared.Stretch.{Stretch}
@@ -34,6 +34,9 @@ one-term l n i r s p q = let e : _≡_ {A = List Term} (r ∷ drop (i + 1) (term
 
 pub one-order : (t u : Term) (r s : Bool) → r ≡ before t u → s ≡ before t u → r ≡ s
 one-order t u r s = one
+
+pub one-count-before : (l : List ℕ) (n : ℕ) (t : Term) (r s : ℕ) → r ≡ countIf (earlier t) (termsIn l n) → s ≡ countIf (earlier t) (termsIn l n) → r ≡ s
+one-count-before l n t r s = one
 
 pub one-size : (t : Term) (r s : ℕ) → (r ≡ natAbs (t .coeff)) × (r ≤ 2 ^ 63) → (s ≡ natAbs (t .coeff)) × (s ≤ 2 ^ 63) → r ≡ s
 one-size t r s p q = one (p .0) (q .0)

@@ -1,10 +1,11 @@
 -- The stretch of the creation column for one annihilation word.
 use Prim.Native.Nat.{ℕ, _+_, _*_, _-_}
-use mathlib.Core.Bool.{Bool, true, false, cond}
+use mathlib.Core.Bool.{Bool, cond}
 use mathlib.Core.List.{List, [], _∷_}
-use lib.Dec.{eqb, ltb, leb}
+use lib.Dec.{eqb, ltb}
 use lib.ListN.{take, drop}
 use Rattle.modes.specs.declared.Term.{Term}
+use Rattle.record.specs.Terms.{before}
 use Rattle.record.specs.Layout.{countOf, termsOf}
 use Rattle.record.specs.Refusals.{refusalOf}
 use Rattle.record.specs.declared.Stretch.{Stretch}
@@ -14,17 +15,20 @@ unfoldable pub countIf : (Term → Bool) → List Term → ℕ
 countIf p [] = 0
 countIf p (t ∷ ts) = cond (p t) 1 0 + countIf p ts
 
--- the term has an annihilation word below a; or, with past, one not above a
-abbrev pub upTo : Bool → ℕ → Term → Bool
-upTo false a t = ltb (t .ann) a
-upTo true a t = leb (t .ann) a
+-- u stands before t
+abbrev pub earlier : Term → Term → Bool
+earlier t u = before u t
+
+-- the term has an annihilation word below a
+abbrev pub annBelow : ℕ → Term → Bool
+annBelow a t = ltb (t .ann) a
 
 -- in a record, which ascends, the terms with the annihilation word a stand from this index on, and up to the other
 abbrev pub firstOf : List ℕ → ℕ → ℕ
-firstOf l a = countIf (upTo false a) (termsOf l)
+firstOf l a = countIf (annBelow a) (termsOf l)
 
 abbrev pub pastOf : List ℕ → ℕ → ℕ
-pastOf l a = countIf (upTo true a) (termsOf l)
+pastOf l a = countIf (annBelow (a + 1)) (termsOf l)
 
 abbrev pub emptyStretch : Stretch
 emptyStretch = record { start = 0; len = 0 }

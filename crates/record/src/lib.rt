@@ -19,7 +19,7 @@ ghost use Rattle.record.specs.Layout.{fields, header, modesOf, countOf, 
 ghost use Rattle.record.specs.Refusals.{termRefusal, refusalOf, refusedRecord, checkedOf};
 ghost use Rattle.record.specs.Reading.{At};
 ghost use Rattle.record.specs.Weights.{heavierBy};
-ghost use Rattle.record.specs.Blocks.{upTo, countIf, blockOf, bytesIn};
+ghost use Rattle.record.specs.Blocks.{countIf, earlier, annBelow, blockOf, bytesIn};
 ghost use Rattle.record.specs.Figures.{rankOf, conserves, figuresOf, conservesOf, maxNBodyOf, activeModesOf};
 
 // The most terms and the largest weight that a record may have.
@@ -282,33 +282,50 @@ pub fn put_term(out: &mut [u8], n: usize, k: usize, t: Term)
     lent::put_word(out, 32 + 16 * n + 8 * k, lent::bits(t.coeff));
 }
 
-// Does t stand before the terms with the annihilation word `ann`, or, with `past`, not after them?
-fn is_up_to(past: bool, ann: u64, t: Term) -> bool
-    ensures { λ r. ⌜ r ≡ upTo past ann t ⌝ }
-{
-    if past {
-        return t.ann <= ann;
-    }
-    t.ann < ann
-}
-
-// How many of the n terms these are, found by halving.
-fn count_up_to(s: &[u8], n: usize, past: bool, ann: u64) -> usize
+// How many of the n terms stand before t, found by halving.
+pub fn count_before(s: &[u8], n: usize, t: Term) -> usize
     requires { ⌜ (32 + 24 * n ≤ length (now s)) × Ascending (termsIn (now s) n) ⌝ }
-    ensures { λ r. ⌜ r ≡ countIf (upTo past ann) (termsIn (now (s .entry)) n) ⌝ }
+    ensures { λ r. ⌜ r ≡ countIf (earlier t) (termsIn (now (s .entry)) n) ⌝ }
 {
     let mut low = 0;
     let mut high = n;
     while low < high {
         let middle = low + (high - low) / 2;
-        let t = read_term(s, n, middle);
-        if is_up_to(past, ann, t) {
+        let u = read_term(s, n, middle);
+        if is_before(u, t) {
             low = middle + 1;
         } else {
             high = middle;
         }
     }
     low
+}
+
+// How many have an annihilation word below `ann`: those before the first term that could have it.
+fn count_below(s: &[u8], n: usize, ann: u64) -> usize
+    requires { ⌜ (32 + 24 * n ≤ length (now s)) × Ascending (termsIn (now s) n) ⌝ }
+    ensures { λ r. ⌜ r ≡ countIf (annBelow ann) (termsIn (now (s .entry)) n) ⌝ }
+{
+    count_before(
+        s,
+        n,
+        Term {
+            cre: 0,
+            ann,
+            coeff: 0,
+        },
+    )
+}
+
+// How many have one up to `ann`: all if it is the largest word, which has none after it.
+fn count_up_to(s: &[u8], n: usize, ann: u64) -> usize
+    requires { ⌜ (32 + 24 * n ≤ length (now s)) × Ascending (termsIn (now s) n) ⌝ }
+    ensures { λ r. ⌜ r ≡ countIf (annBelow (ann + 1)) (termsIn (now (s .entry)) n) ⌝ }
+{
+    if ann == u64::MAX {
+        return n;
+    }
+    count_below(s, n, ann + 1)
 }
 
 // Where the creations of the terms with the annihilation word `ann` stand in the record's bytes.
@@ -320,8 +337,8 @@ pub fn block_bounds(s: &[u8], ann: u64) -> Stretch
         return Stretch { start: 0, len: 0 };
     }
     let n = c.terms;
-    let first = count_up_to(s, n, false, ann);
-    let past = count_up_to(s, n, true, ann);
+    let first = count_below(s, n, ann);
+    let past = count_up_to(s, n, ann);
     if first == past {
         return Stretch { start: 0, len: 0 };
     }

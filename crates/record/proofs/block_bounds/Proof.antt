@@ -9,10 +9,10 @@ use borrow.Author.Needs.{needs}
 use Rattle.record.proofs.block_bounds.Statement.{statement}
 use Rattle.record.proofs.block_bounds.Tie as tie
 
-bounded : (c : tie.Else2) → (c .before .before .before .before .before .check .result .terms ≤ 2048) × (c .before .before .count-up-to .result ≤ c .before .count-up-to2 .result) × (c .before .count-up-to2 .result ≤ c .before .before .before .before .before .check .result .terms)
+bounded : (c : tie.Else2) → (c .before .before .before .before .before .check .result .terms ≤ 2048) × (c .before .before .count-below .result ≤ c .before .count-up-to .result) × (c .before .count-up-to .result ≤ c .before .before .before .before .before .check .result .terms)
 bounded c =
     block-bounded _ _ _ (accepted 1 _ _ (c .before .before .before .before .before .check .ensures) (c .before .before .before .if1 .left)) _ _
-    (c .before .before .count-up-to .ensures) (c .before .count-up-to2 .ensures)
+    (c .before .before .count-below .ensures) (c .before .count-up-to .ensures)
 
 check-requires : tie.Need-check-requires
 check-requires c κs = search needs
@@ -20,17 +20,17 @@ check-requires c κs = search needs
 returns : tie.Need-returns
 returns c = block-refused _ _ (λ e. c .if1 .taken (ap (λ (d : Checked). d .refusal .number) (refused 1 _ _ (c .before .before .check .ensures) (c .if1 .taken)) ∙ e))
 
-count-up-to-requires : tie.Need-count-up-to-requires
-count-up-to-requires c κs = readable 1 _ _ (accepted 1 _ _ (c .before .before .check .ensures) (c .if1 .left))
+count-below-requires : tie.Need-count-below-requires
+count-below-requires c κs = readable 1 _ _ (accepted 1 _ _ (c .before .before .check .ensures) (c .if1 .left))
 
-count-up-to-requires-2 : tie.Need-count-up-to-requires-2
-count-up-to-requires-2 c κs = readable 1 _ _ (accepted 1 _ _ (c .before .before .before .check .ensures) (c .before .if1 .left))
+count-up-to-requires : tie.Need-count-up-to-requires
+count-up-to-requires c κs = readable 1 _ _ (accepted 1 _ _ (c .before .before .before .check .ensures) (c .before .if1 .left))
 
 returns-2 : tie.Need-returns-2
 returns-2 c =
     let at-if1 = c .before .before .before in
     let at-check = at-if1 .before .before in
-    stretch-none _ _ _ (c .if2 .taken) ∙ block-found _ _ _ (accepted 1 _ _ (at-check .check .ensures) (at-if1 .if1 .left)) _ _ (c .before .before .count-up-to .ensures) (c .before .count-up-to2 .ensures)
+    stretch-none _ _ _ (c .if2 .taken) ∙ block-found _ _ _ (accepted 1 _ _ (at-check .check .ensures) (at-if1 .if1 .left)) _ _ (c .before .before .count-below .ensures) (c .before .count-up-to .ensures)
 
 mul-t8 : tie.Need-mul-t8
 mul-t8 c = omega (arith, bounded c)
@@ -54,7 +54,7 @@ returns-3 : tie.Need-returns-3
 returns-3 c =
     let at-if1 = c .before .before .before in
     let at-check = at-if1 .before .before in
-    stretch-some _ _ _ (c .if2 .left) ∙ block-found _ _ _ (accepted 1 _ _ (at-check .check .ensures) (at-if1 .if1 .left)) _ _ (c .before .before .count-up-to .ensures) (c .before .count-up-to2 .ensures)
+    stretch-some _ _ _ (c .if2 .left) ∙ block-found _ _ _ (accepted 1 _ _ (at-check .check .ensures) (at-if1 .if1 .left)) _ _ (c .before .before .count-below .ensures) (c .before .count-up-to .ensures)
 
 pub block-bounds-spec : {M : Type 1} → statement M
 block-bounds-spec =
@@ -62,8 +62,8 @@ block-bounds-spec =
     (tie.spec
     check-requires
     returns
+    count-below-requires
     count-up-to-requires
-    count-up-to-requires-2
     returns-2
     mul-t8
     add-t9

@@ -1,74 +1,22 @@
--- `record::count_up_to` meets its contract. The invariant: the test holds of the first `low` terms, and of none from the `high`-th on.
-use borrow.Author.Needs.{needs}
-use mathlib.Core.Path.{sym, _∙_}
-use Prim.Native.Nat.{_-_, _≤_}
+-- `record::count_up_to` meets its contract: every word is up to the largest.
 use native.Mathlib.Omega.{arith}
-use Rattle.record.specs.Layout.{termsIn}
-use Rattle.record.specs.Blocks.{upTo}
-use Rattle.record.proofs.Reading.{none-left}
-use Rattle.record.proofs.Blocks.{Halving, halving-starts, halving-up, halving-down, halving-ends}
+use Rattle.record.proofs.Blocks.{count-every}
+use borrow.Author.Needs.{needs}
 use Rattle.record.proofs.count_up_to.Statement.{statement}
 use Rattle.record.proofs.count_up_to.Tie as tie
 
-abbrev Inv-loop : tie.InvT-loop
-Inv-loop s n past ann low₀ high₀ low high = (low ≤ high) × (high ≤ n) × Halving (upTo past ann) (termsIn s n) low high
+returns : tie.Need-returns
+returns c =
+    let s = c .before .before in count-every (s .args .s .now) (s .args .n) _ (λ k. c .before .shared-slice-known .given k .fits) (s .pre .0) (omega (arith, c .if1 .taken))
 
-abbrev μ-loop : tie.MeasureT-loop
-μ-loop s n past ann low₀ high₀ low high = high - low
+add-count-below : tie.Need-add-count-below
+add-count-below c = search needs
 
-loop-holds : tie.Need-loop-holds Inv-loop μ-loop
-loop-holds c = (search needs, search needs, halving-starts _ _ _ (none-left (c .before .args .s .now) (c .before .args .n) (c .before .args .n) (omega arith)))
+count-below-requires : tie.Need-count-below-requires
+count-below-requires c κs = search needs
 
-sub-middle : tie.Need-sub-middle Inv-loop μ-loop
-sub-middle c = search needs
-
-add-middle : tie.Need-add-middle Inv-loop μ-loop
-add-middle c = search needs
-
-read-term-requires : tie.Need-read-term-requires Inv-loop μ-loop
-read-term-requires c κs = (search needs, omega arith)
-
-is-up-to-requires : tie.Need-is-up-to-requires Inv-loop μ-loop
-is-up-to-requires c κs = search needs
-
-add-low : tie.Need-add-low Inv-loop μ-loop
-add-low c = search needs
-
-loop-less : tie.Need-loop-less Inv-loop μ-loop
-loop-less c = search needs
-
-loop-again : tie.Need-loop-again Inv-loop μ-loop
-loop-again c =
-    let at-loop = c .before .before .before .before in
-    let at-start = at-loop .before .before in
-    (omega arith, search needs, halving-up (at-start .args .past) (at-start .args .ann) _ (at-start .pre .1) _ _ _ _ (c .before .before .read-term .ensures) (at-loop .loop .inv .2) (sym (c .before .is-up-to .ensures) ∙ c .if1 .taken))
-
-loop-less-2 : tie.Need-loop-less-2 Inv-loop μ-loop
-loop-less-2 c = search needs
-
-loop-again-2 : tie.Need-loop-again-2 Inv-loop μ-loop
-loop-again-2 c =
-    let at-loop = c .before .before .before .before in
-    let at-start = at-loop .before .before in
-    (omega arith, omega arith, halving-down (at-start .args .past) (at-start .args .ann) _ (at-start .pre .1) _ _ _ _ (c .before .before .read-term .ensures) (at-loop .loop .inv .2) (sym (c .before .is-up-to .ensures) ∙ c .if1 .left))
-
-returns : tie.Need-returns Inv-loop μ-loop
-returns c = halving-ends _ _ _ _ (omega arith) (c .before .loop .inv .2)
+returns-2 : tie.Need-returns-2
+returns-2 c = c .count-below .ensures
 
 pub count-up-to-spec : {M : Type 1} → statement M
-count-up-to-spec =
-    tie.close
-    (tie.spec
-    Inv-loop
-    μ-loop
-    loop-holds
-    sub-middle
-    add-middle
-    read-term-requires
-    is-up-to-requires
-    add-low
-    loop-less
-    loop-again
-    loop-less-2
-    loop-again-2
-    returns)
+count-up-to-spec = tie.close (tie.spec returns add-count-below count-below-requires returns-2)

@@ -1,15 +1,14 @@
--- `adjoint::count_before` meets its contract. The invariant: the first `low` terms stand before t, and none from the `high`-th on does.
+-- `record::count_before` meets its contract. The invariant: the first `low` terms stand before t, and none from the `high`-th on does.
 use borrow.Author.Needs.{needs}
 use mathlib.Core.Path.{sym, _∙_}
 use Prim.Native.Nat.{_-_, _≤_}
 use native.Mathlib.Omega.{arith}
 use Rattle.record.specs.Layout.{termsIn}
+use Rattle.record.specs.Blocks.{earlier}
 use Rattle.record.proofs.Reading.{none-left}
-use Rattle.record.proofs.Blocks.{Halving, halving-starts, halving-rises, halving-falls, halving-ends}
-use Rattle.adjoint.specs.Hermitian.{earlier}
-use Rattle.adjoint.proofs.Among.{earlier-downward}
-use Rattle.adjoint.proofs.count_before.Statement.{statement}
-use Rattle.adjoint.proofs.count_before.Tie as tie
+use Rattle.record.proofs.Blocks.{earlier-downward, Halving, halving-starts, halving-rises, halving-falls, halving-ends}
+use Rattle.record.proofs.count_before.Statement.{statement}
+use Rattle.record.proofs.count_before.Tie as tie
 
 abbrev Inv-loop : tie.InvT-loop
 Inv-loop s n t low₀ high₀ low high = (low ≤ high) × (high ≤ n) × Halving (earlier t) (termsIn s n) low high
