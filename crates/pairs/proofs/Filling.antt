@@ -30,25 +30,33 @@ pub not-over : (ts : List Term) (l : List ℕ) (s : Fill) → s .held ≤ length
 not-over ts l s h (filled f) = f
 not-over ts l s h (over a b) = absurd (omega arith)
 
--- the rows of one product
-module _ (rows : List Term) (l : List ℕ) (s : Fill) (m : List ℕ) (r : Fill) (ready : Room l s) (len : length m ≡ length l) where
-  pub product-room : Appended rows l s m r → r .held ≤ length m → Room m r
-  product-room (filling.fits a b c d) h = record { few = omega (arith, a, b, ready .few); fits = h }
-  product-room (filling.over a b) h = absurd (omega (arith, len))
+-- the rows of one product, written where there was room
+pub record Product (rows : List Term) (l : List ℕ) (s : Fill) (m : List ℕ) (r : Fill) : Type 0 where
+  pub ready : Room l s
+  pub len : length m ≡ length l
+  pub is : Appended rows l s m r
 
-  pub product-adds : Appended rows l s m r → Adds rows l s m r
-  product-adds g = record { room = product-room g; grows = λ ts f. go ts f g }
+module _ {rows : List Term} {l : List ℕ} {s : Fill} {m : List ℕ} {r : Fill} (p : Product rows l s m r) where
+  pub product-room : r .held ≤ length m → Room m r
+  product-room h = go (p .is)
+    where
+      go : Appended rows l s m r → Room m r
+      go (filling.fits a b c d) = record { few = omega (arith, a, b, p .ready .few); fits = h }
+      go (filling.over a b) = absurd (omega (arith, p .len))
+
+  pub product-adds : Adds rows l s m r
+  product-adds = record { room = product-room; grows = λ ts f. go ts f (p .is) }
     where
       go : (ts : List Term) → Filled ts l s → Appended rows l s m r → Grown (ts ++ rows) m r
       go ts f (filling.fits a b c d) =
           filled (record {
-            room = record { few = omega (arith, a, b, ready .few); fits = omega (arith, c, len) };
+            room = record { few = omega (arith, a, b, p .ready .few); fits = omega (arith, c, p .len) };
             held = omega (arith, a, f .held, length-append ts rows);
             count = f .count + length rows;
             used = omega (arith, b, f .used);
             rows = stands-trans (stands-same _ _ (d (f .count) (f .used))) (stands-append (rowsAt l 0 (f .count)) ts rows (f .rows));
           })
-      go ts f (filling.over a b) = over (omega (arith, a, len, f .held, length-append ts rows)) (omega (arith, b, len))
+      go ts f (filling.over a b) = over (omega (arith, a, p .len, f .held, length-append ts rows)) (omega (arith, b, p .len))
 
 -- two steps, one after the other; or the first is too much already
 pub adds-then : (A B : List Term) {l m n : List ℕ} {s r q : Fill} → Adds A l s m r → r .held ≤ length m → Adds B m r n q → Adds (A ++ B) l s n q
@@ -64,8 +72,7 @@ adds-over A B {l} {m} {s} {r} a h = record {
 }
 
 -- the last row of the first product in hand while the second is written
-module _ (A B : List Term) (l : List ℕ) (s : Fill) (m : List ℕ) (one : Fill) (ready : Room l s) (len : length m ≡ length l) (g : Appended A l s m one)
-    (h : one .held ≤ length m) (some : one .used ≡ s .used → ⊥) where
+module _ {A : List Term} {l : List ℕ} {s : Fill} {m : List ℕ} {one : Fill} (p : Product A l s m one) (h : one .held ≤ length m) (some : one .used ≡ s .used → ⊥) where
   abbrev rest : Fill
   rest = record { used = one .used - 24; held = one .held }
 
@@ -77,7 +84,7 @@ module _ (A B : List Term) (l : List ℕ) (s : Fill) (m : List ℕ) (one : Fill)
     rows : (count : ℕ) → s .used ≡ 24 * count → rowsAt m 0 (count + length A) ≡ rowsAt l 0 count ++ A
 
   counted : Counted
-  counted = go g
+  counted = go (p .is)
     where
       go : Appended A l s m one → Counted
       go (filling.fits a b c d) = record { held = a; used = b; more = at (length A) b; rows = d }
@@ -85,18 +92,18 @@ module _ (A B : List Term) (l : List ℕ) (s : Fill) (m : List ℕ) (one : Fill)
           at : (k : ℕ) → one .used ≡ s .used + 24 * k → 1 ≤ k
           at zero e = absurd (some (omega (arith, e)))
           at (suc k) e = omega arith
-      go (filling.over a b) = absurd (omega (arith, len))
+      go (filling.over a b) = absurd (omega (arith, p .len))
 
   pub last-row : 24 ≤ one .used
   last-row = omega (arith, counted .used, counted .more)
 
   pub last-fits : one .used - 24 + 24 ≤ length m
-  last-fits = omega (arith, product-room A l s m one ready len g h .few, last-row)
+  last-fits = omega (arith, product-room p h .few, last-row)
 
   pub rest-room : Room m rest
-  rest-room = record { few = omega (arith, product-room A l s m one ready len g h .few); fits = h }
+  rest-room = record { few = omega (arith, product-room p h .few); fits = h }
 
-  module _ (n : List ℕ) (two : Fill) (len2 : length n ≡ length m) (g2 : Appended B m rest n two) where
+  module _ (B : List Term) {n : List ℕ} {two : Fill} (len2 : length n ≡ length m) (g2 : Appended B m rest n two) where
     pub second-over : length n < two .held → Adds (A ++ B) l s n two
     second-over k = record { room = λ j. absurd (omega arith); grows = λ ts f. go ts f g2 }
       where
@@ -109,7 +116,7 @@ module _ (A B : List Term) (l : List ℕ) (s : Fill) (m : List ℕ) (one : Fill)
       settle-room = go g2
         where
           go : Appended B m rest n two → two .used + 24 ≤ length n
-          go (filling.fits a b c d) = omega (arith, a, b, last-row, product-room A l s m one ready len g h .few)
+          go (filling.fits a b c d) = omega (arith, a, b, last-row, product-room p h .few)
           go (filling.over a b) = absurd (omega (arith, len2))
 
       module _ (x : Term) (is : x ≡ rowAt m (one .used - 24)) where
@@ -133,9 +140,9 @@ module _ (A B : List Term) (l : List ℕ) (s : Fill) (m : List ℕ) (one : Fill)
         module _ (o : List ℕ) (r : Fill) (len3 : length o ≡ length n) where
           settled-room : Appended B m rest n two → Settled x n two o r → Room o r
           settled-room (filling.fits a b c d) (cancelled u v w y) =
-              record { few = omega (arith, a, b, u, v, product-room A l s m one ready len g h .few); fits = omega (arith, v, len3) }
+              record { few = omega (arith, a, b, u, v, product-room p h .few); fits = omega (arith, v, len3) }
           settled-room (filling.fits a b c d) (kept u v w) =
-              record { few = omega (arith, a, b, u, v, last-row, product-room A l s m one ready len g h .few); fits = omega (arith, v, len3) }
+              record { few = omega (arith, a, b, u, v, last-row, product-room p h .few); fits = omega (arith, v, len3) }
           settled-room (filling.over a b) t = absurd (omega (arith, len2))
 
           settled-held : (ts : List Term) → Filled ts l s → two .held ≡ one .held + 24 * length B → r .held ≡ two .held → r .held ≡ 24 * length (ts ++ (A ++ B))

@@ -45,7 +45,7 @@ returns-2 : tie.Need-returns-2
 returns-2 c =
     let s = c .before .before .before .before .before .before .before .before .before .before in
     let one = c .before .before .append in
-    rw (c .before .before .before .before .before .if1 .left) (one-order (s .args .sign .0) (s .args .t) (s .args .u) (record { sfits = c .before .before .before .before .before .before .before .before .struct-told .given .1 .1 .0 .1 }) (record { sfits = c .before .before .before .before .before .before .before .struct-told2 .given .1 .1 .0 .1 }) (s .pre .1) _ (c .before .before .before .before .before .before .product .ensures) (product-adds _ (s .args .work .now) (s .args .s) (one .last .0) (one .result) (s .pre .0) (one .kept .0) (appended-as (s .args .t) (s .args .u) (c .before .before .before .before .before .before .product .result) _ (c .before .before .before .helper-of .ensures) (record { sfits = c .before .before .before .before .before .before .product .ok }) (one .ensures))))
+    rw (c .before .before .before .before .before .if1 .left) (one-order (s .args .sign .0) (s .args .t) (s .args .u) (record { sfits = c .before .before .before .before .before .before .before .before .struct-told .given .1 .1 .0 .1 }) (record { sfits = c .before .before .before .before .before .before .before .struct-told2 .given .1 .1 .0 .1 }) (s .pre .1) _ (c .before .before .before .before .before .before .product .ensures) (product-adds (record { ready = s .pre .0; len = one .kept .0; is = appended-as (s .args .t) (s .args .u) (c .before .before .before .before .before .before .product .result) _ (c .before .before .before .helper-of .ensures) (record { sfits = c .before .before .before .before .before .before .product .ok }) (one .ensures) })))
 
 pub append-pair-spec : {M : Type 1} → statement M
 append-pair-spec =
