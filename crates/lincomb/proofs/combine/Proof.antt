@@ -42,47 +42,34 @@ refuse-requires-2 c κs = search needs
 same-length-2 : tie.Need-same-length-2
 same-length-2 c = search needs
 
+-- once the tally is weighed
+abbrev pair : tie.After-verdict → tie.After-open-pair
+pair v = v .before .before .before .before
+
+abbrev start : tie.After-verdict → tie.Start
+start v = pair v .before .before .before .before
+
 returns-2 : tie.Need-returns-2
 returns-2 c =
-    let at-if2 = c .before .before .before .before in
-    let at-verdict = at-if2 .before .before in
-    let at-count-terms = at-verdict .before in
-    let at-if1 = at-count-terms .before in
-    let at-open-pair = at-if1 .before .before in
-    let at-start = at-open-pair .before .before .before .before in
-    let s = at-start .args in
-    let p = at-open-pair .open-pair .ensures in
-    let t = at-count-terms .count-terms .ensures in
-    gives-as (result-refused (s .sign .0) _ _ (s .out .now) _ p (at-if1 .if1 .left) _ t _ (at-verdict .verdict .ensures) (at-if2 .if2 .taken)) (c .before .before .refuse2 .ensures)
+    let v = c .before .before .before .before .before .before in
+    let s = start v .args in
+    gives-as (result-refused (s .sign .0) _ _ (s .out .now) _ (pair v .open-pair .ensures) (v .before .before .if1 .left) _ (v .before .count-terms .ensures) _ (v .verdict .ensures) (c .before .before .before .before .if2 .taken)) (c .before .before .refuse2 .ensures)
 
 write-sum-requires : tie.Need-write-sum-requires
 write-sum-requires c κs =
-    let at-verdict = c .before .before .before in
-    let at-count-terms = at-verdict .before in
-    let at-if1 = at-count-terms .before in
-    let at-open-pair = at-if1 .before .before in
-    let at-start = at-open-pair .before .before .before .before in
-    let s = at-start .args in
-    let p = at-open-pair .open-pair .ensures in
-    let t = at-count-terms .count-terms .ensures in
-    let f = room-enough (s .sign .0) _ _ (s .out .now) _ p (at-if1 .if1 .left) _ t _ (at-verdict .verdict .ensures) (c .before .if2 .left) in
-    ((sound-left (s .sign .0) _ _ (s .out .now) _ p (at-if1 .if1 .left), sound-right (s .sign .0) _ _ (s .out .now) _ p (at-if1 .if1 .left)), (t .terms, f .long, f .few))
+    let v = c .before .before .before in
+    let s = start v .args in
+    let f = room-enough (s .sign .0) _ _ (s .out .now) _ (pair v .open-pair .ensures) (v .before .before .if1 .left) _ (v .before .count-terms .ensures) _ (v .verdict .ensures) (c .before .if2 .left) in
+    ((sound-left (s .sign .0) _ _ (s .out .now) _ (pair v .open-pair .ensures) (v .before .before .if1 .left), sound-right (s .sign .0) _ _ (s .out .now) _ (pair v .open-pair .ensures) (v .before .before .if1 .left)), (v .before .count-terms .ensures .terms, f .long, f .few))
 
 same-length-3 : tie.Need-same-length-3
 same-length-3 c = search needs
 
 returns-3 : tie.Need-returns-3
 returns-3 c =
-    let at-if2 = c .before .before .before .before in
-    let at-verdict = at-if2 .before .before in
-    let at-count-terms = at-verdict .before in
-    let at-if1 = at-count-terms .before in
-    let at-open-pair = at-if1 .before .before in
-    let at-start = at-open-pair .before .before .before .before in
-    let s = at-start .args in
-    let p = at-open-pair .open-pair .ensures in
-    let t = at-count-terms .count-terms .ensures in
-    gives-as (result-delivered (s .sign .0) _ _ (s .out .now) _ p (at-if1 .if1 .left) _ t _ (at-verdict .verdict .ensures) (at-if2 .if2 .left)) (c .before .before .write-sum .ensures)
+    let v = c .before .before .before .before .before .before in
+    let s = start v .args in
+    gives-as (result-delivered (s .sign .0) _ _ (s .out .now) _ (pair v .open-pair .ensures) (v .before .before .if1 .left) _ (v .before .count-terms .ensures) _ (v .verdict .ensures) (c .before .before .before .before .if2 .left)) (c .before .before .write-sum .ensures)
 
 pub combine-spec : {M : Type 1} → statement M
 combine-spec =
