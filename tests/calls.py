@@ -110,6 +110,14 @@ class Calls:
     def met(self, name, number):
         self.refusals[name, number] = self.refusals.get((name, number), 0) + 1
 
+    def judge_stored(self, name, got, rust, agrees, about):
+        """A stored answer is the Rust's where its line is marked agree, and another where it is marked differs."""
+        if agrees:
+            self.tally.same(f"{name}: stored answers marked agree are the Rust's", got, rust, about)
+        else:
+            differs = got is not None and got != rust
+            self.tally.same(f"{name}: stored answers marked differs are not", differs, True, about)
+
     def print_refusals(self):
         """How often each refusal was to be met, by records.py, 0 standing for a call that is not refused."""
         numbers = sorted({number for _, number in self.refusals})
@@ -118,3 +126,14 @@ class Calls:
         for name in dict.fromkeys(name for name, _ in self.refusals):
             row = (self.refusals.get((name, number), 0) for number in numbers)
             print(f"{name:28}" + "".join(f"{n or '-':>8}" for n in row))
+
+
+def run(seed, checks):
+    """Each check on the library made for this machine, then how often each refusal was met, and the closing line."""
+    lib, kind = face.load()
+    print(f"called from Python: {kind}")
+    calls = Calls(lib, seed, face.Tally())
+    for check in checks:
+        check(calls)
+    calls.print_refusals()
+    calls.tally.close()

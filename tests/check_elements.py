@@ -8,7 +8,7 @@ import draws
 import face
 import records
 import stored
-from calls import MISSING, Calls
+from calls import MISSING, run
 
 SEED = 20261119
 TOP, FULL = 2**63, 2**64 - 1
@@ -224,24 +224,10 @@ def check_stored_matrices(calls):
         got, _ = calls.call(name, a, basis)
         value = None if got == MISSING or got.numbers[0] else got.lent[0]
         rust, about = placed([int(entry) for entry in answer], len(basis)), f"{m} {fields}"
-        if agrees:
-            calls.tally.same(f"{name}: stored answers marked agree are the Rust's", value, rust, about)
-        else:
-            differs = value is not None and value != rust
-            calls.tally.same(f"{name}: stored answers marked differs are not", differs, True, about)
+        calls.judge_stored(name, value, rust, agrees, about)
 
 
-def main():
-    lib, kind = face.load()
-    print(f"called from Python: {kind}")
-    tally = face.Tally()
-    calls = Calls(lib, SEED, tally)
-    for check in (check_cases, check_drawn_elements, check_every_element, check_large_elements, check_drawn_matrices,
-                  check_bases, check_drawn_comparisons, check_named, check_large_comparisons, check_damaged,
-                  check_stored_matrices):
-        check(calls)
-    calls.print_refusals()
-    tally.close()
-
-
-main()
+run(SEED, (
+    check_cases, check_drawn_elements, check_every_element, check_large_elements, check_drawn_matrices, check_bases,
+    check_drawn_comparisons, check_named, check_large_comparisons, check_damaged, check_stored_matrices,
+))

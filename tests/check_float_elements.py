@@ -7,7 +7,7 @@ import draws
 import face
 import records
 import stored
-from calls import MISSING, Calls
+from calls import MISSING, run
 
 SEED = 20261120
 TOP, FULL = 2**63, 2**64 - 1
@@ -188,16 +188,7 @@ def check_stored(calls):
         calls.tally.same(f"{call[0]}: stored answers are the Rust's, by bits", value, rust, call)
 
 
-def main():
-    lib, kind = face.load()
-    print(f"called from Python: {kind}")
-    tally = face.Tally()
-    calls = Calls(lib, SEED, tally)
-    for check in (check_drawn_floats, check_one_joining, check_order, check_overflow, check_not_finite,
-                  check_list_lengths, check_list_words, check_stored):
-        check(calls)
-    calls.print_refusals()
-    tally.close()
-
-
-main()
+run(SEED, (
+    check_drawn_floats, check_one_joining, check_order, check_overflow, check_not_finite, check_list_lengths,
+    check_list_words, check_stored,
+))

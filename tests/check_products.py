@@ -6,11 +6,10 @@ import itertools
 import signal
 
 import draws
-import face
 import records
 import rule
 import stored
-from calls import MISSING, Calls
+from calls import MISSING, run
 
 SEED = 20261118
 FULL = 2**64 - 1
@@ -331,24 +330,11 @@ def check_stored(calls):
         got, _ = calls.call(name, a, b, WORK, ROOM)
         rows = None if got == MISSING or got.numbers[0] else records.decode(got.lent[1])[1]
         rust, about = stored.rows(answer), f"{name} {m} {operators}"
-        if agrees:
-            calls.tally.same(f"{name}: stored answers marked agree are the Rust's", rows, rust, about)
-        else:
-            differs = rows is not None and rows != rust
-            calls.tally.same(f"{name}: stored answers marked differs are not", differs, True, about)
+        calls.judge_stored(name, rows, rust, agrees, about)
 
 
-def main():
-    lib, kind = face.load()
-    print(f"called from Python: {kind}")
-    tally = face.Tally()
-    calls = Calls(lib, SEED, tally)
-    for check in (check_case_14, check_drawn, check_lengths, check_damaged, check_weights, check_result_weights,
-                  check_huge, check_empty, check_sizes, check_branches, check_common, check_cancelling, check_large,
-                  check_one_workspace, check_stored):
-        check(calls)
-    calls.print_refusals()
-    tally.close()
-
-
-main()
+run(SEED, (
+    check_case_14, check_drawn, check_lengths, check_damaged, check_weights, check_result_weights, check_huge,
+    check_empty, check_sizes, check_branches, check_common, check_cancelling, check_large, check_one_workspace,
+    check_stored,
+))

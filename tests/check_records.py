@@ -4,10 +4,9 @@ examples and the stored answers of zixy."""
 import itertools
 
 import draws
-import face
 import records
 import stored
-from calls import MISSING, Calls
+from calls import MISSING, run
 
 SEED = 20261117
 TOP, FULL = 2**63, 2**64 - 1
@@ -318,24 +317,11 @@ def check_stored(calls):
         calls.judge(f"{name}: stored operators", name, *args)
         got, rust = as_stored(calls.call(name, *args)[0], name), stored_answer(name, answer)
         about = f"{function} {m} {operators}"
-        if agrees:
-            calls.tally.same(f"{name}: stored answers marked agree are the Rust's", got, rust, about)
-        else:
-            differs = got is not None and got != rust
-            calls.tally.same(f"{name}: stored answers marked differs are not", differs, True, about)
+        calls.judge_stored(name, got, rust, agrees, about)
 
 
-def main():
-    lib, kind = face.load()
-    print(f"called from Python: {kind}")
-    tally = face.Tally()
-    calls = Calls(lib, SEED, tally)
-    for check in (check_example, check_drawn, check_same_memory, check_lengths, check_damaged, check_both_damaged,
-                  check_flips, check_modes, check_top_modes, check_sizes, check_weights, check_result_weights, check_large,
-                  check_every_stretch, check_stored):
-        check(calls)
-    calls.print_refusals()
-    tally.close()
-
-
-main()
+run(SEED, (
+    check_example, check_drawn, check_same_memory, check_lengths, check_damaged, check_both_damaged, check_flips,
+    check_modes, check_top_modes, check_sizes, check_weights, check_result_weights, check_large,
+    check_every_stretch, check_stored,
+))
