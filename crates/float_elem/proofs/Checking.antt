@@ -1,10 +1,10 @@
 -- The checks before the sum, case by case: the lists, and a term.
 use mathlib.Core.Path.{_≡_, refl, sym, ap, _∙_}
-use mathlib.Core.Bool.{Bool, true, false, cond, _&&_, and-true, and-false}
+use mathlib.Core.Bool.{Bool, true, false, cond, and-true, and-false}
 use mathlib.Core.List.{List, [], _∷_}
-use Prim.Native.Nat.{ℕ, _^_, _≤_, _<_}
+use Prim.Native.Nat.{ℕ, _≤_, _<_}
 use native.Mathlib.Omega.{arith}
-use lib.Dec.{eqb, ltb, leb}
+use lib.Dec.{eqb, leb}
 use lib.ListN.{length}
 use lib.Ieee.{Float}
 use lib.Ieee.Scale.{finite}
@@ -16,6 +16,7 @@ use Rattle.modes.specs.declared.MadeSpace.{MadeSpace}
 use Rattle.modes.specs.declared.MadeSpace.the-variants.{Refused}
 use Rattle.modes.proofs.Bools.{and-l, and-r}
 use Rattle.record.specs.Layout.{isMade}
+use Rattle.record.specs.Refusals.{inside}
 use Rattle.float_elem.specs.Elements.{allFinite, listed, termRefusal}
 use Rattle.float_elem.specs.Lengths.{OneLength}
 
@@ -66,27 +67,23 @@ pub second-decides : (x y : Float) → finite x ≡ true → finite y ≡ allFin
 second-decides x y e = rw (e, and-true)
 
 module _ (m i cre ann : ℕ) (c : List Float) where
-  pub ann-outside : ltb ann (2 ^ m) ≡ false → refusal 2 1 i ≡ termRefusal m i cre ann c
+  pub outside : inside m cre ann ≡ false → refusal 2 1 i ≡ termRefusal m i cre ann c
   unfolding termRefusal
-  ann-outside a = rw a
+  outside e = rw e
 
-  pub cre-outside : ltb cre (2 ^ m) ≡ false → refusal 2 1 i ≡ termRefusal m i cre ann c
-  unfolding termRefusal
-  cre-outside a = rw (a, and-false (ltb ann (2 ^ m)))
-
-  module _ (a : ltb ann (2 ^ m) ≡ true) (b : ltb cre (2 ^ m) ≡ true) where
+  module _ (e : inside m cre ann ≡ true) where
     pub not-finite : allFinite c ≡ false → refusal 13 1 i ≡ termRefusal m i cre ann c
     unfolding termRefusal
-    not-finite f = rw (a, b, f)
+    not-finite f = rw (e, f)
 
     pub right-term : allFinite c ≡ true → none ≡ termRefusal m i cre ann c
     unfolding termRefusal
-    right-term f = rw (a, b, f)
+    right-term f = rw (e, f)
 
   -- a refusal without a number is none
   pub no-number : (r : Refusal) → r ≡ termRefusal m i cre ann c → r .number ≡ 0 → termRefusal m i cre ann c ≡ none
   unfolding termRefusal
-  no-number r e z = go (ltb ann (2 ^ m) && ltb cre (2 ^ m)) (allFinite c) (ap (λ (x : Refusal). x .number) (sym e) ∙ z)
+  no-number r e z = go (inside m cre ann) (allFinite c) (ap (λ (x : Refusal). x .number) (sym e) ∙ z)
     where
       go : (a b : Bool) → (cond a (cond b none (refusal 13 1 i)) (refusal 2 1 i)) .number ≡ 0 → cond a (cond b none (refusal 13 1 i)) (refusal 2 1 i) ≡ none
       go true true z = refl

@@ -1,14 +1,14 @@
 -- Theorems on float elements: every value that comes out is finite; and with exactly one joining term it is that term's coefficient, signed, exactly.
 use mathlib.Core.Path.{_≡_, refl, sym, ap, ap₂, _∙_}
-use mathlib.Core.Bool.{Bool, true, false, cond, _&&_}
+use mathlib.Core.Bool.{Bool, true, false, cond}
 use mathlib.Core.List.{List, [], _∷_, map}
 use mathlib.Core.Logic.{⊎-elim}
-use Prim.Native.Nat.{ℕ, zero, suc, _+_, _-_, _^_, _≤_, _<_}
+use Prim.Native.Nat.{ℕ, zero, suc, _+_, _-_, _≤_, _<_}
 use native.Mathlib.Nat.{add-zero, add-suc}
 use native.Mathlib.Numerals.{add-one}
 use native.Mathlib.Omega.{arith}
 use borrow.Author.Tests.{eq-eqb, ne-eqb, eqb-true}
-use lib.Dec.{T, eqb, ltb}
+use lib.Dec.{T, eqb}
 use lib.ListN.{length, getD}
 use lib.Ieee.{Float, nan, inf, fin, neg, binary64, fits}
 use lib.Ieee.Scale.{finite}
@@ -19,7 +19,7 @@ use Rattle.modes.proofs.Bools.{and-l, and-r}
 use Rattle.modes.proofs.Digits.{lt-or-ge}
 use Rattle.products.specs.PhaseRule.{Outcome, gone, went}
 use Rattle.products.specs.Lists.{Each}
-use Rattle.record.specs.Refusals.{orElse}
+use Rattle.record.specs.Refusals.{orElse, inside}
 use Rattle.record.proofs.Refusals.{or-second}
 use Rattle.record.proofs.Accepted.{neither}
 use Rattle.mat_elem.specs.Refusals.{firstRefusal}
@@ -130,7 +130,7 @@ module _ (bra ket : ℕ) (cre ann : List ℕ) (n i : ℕ) (s : Bool) (only : Onl
 
 term-finite : (m i cre ann : ℕ) (c : List Float) → termRefusal m i cre ann c .number ≡ 0 → allFinite c ≡ true
 unfolding termRefusal
-term-finite m i cre ann c = go (ltb ann (2 ^ m) && ltb cre (2 ^ m))
+term-finite m i cre ann c = go (inside m cre ann)
   where
     go : (b : Bool) → (cond b (cond (allFinite c) none (refusal 13 1 i)) (refusal 2 1 i)) .number ≡ 0 → allFinite c ≡ true
     go true z = finite-there _ i z

@@ -1,8 +1,8 @@
 -- The element of a list of terms with float coefficients at (bra, ket). A coefficient has one part, a real, or two, re and im; `parts` holds a list of floats for each.
 use mathlib.Core.Bool.{Bool, true, cond, _&&_}
 use mathlib.Core.List.{List, [], _∷_, map}
-use Prim.Native.Nat.{ℕ, suc, _^_}
-use lib.Dec.{eqb, ltb, leb}
+use Prim.Native.Nat.{ℕ, suc}
+use lib.Dec.{eqb, leb}
 use lib.ListN.{length, getD}
 use lib.Ieee.{Float, nan}
 use lib.Ieee.Scale.{finite}
@@ -10,7 +10,7 @@ use Rattle.modes.specs.Spaces.{spaceOf}
 use Rattle.modes.specs.Answers.{refusal, none}
 use Rattle.modes.specs.declared.Refusal.{Refusal}
 use Rattle.record.specs.Layout.{isMade}
-use Rattle.record.specs.Refusals.{orElse}
+use Rattle.record.specs.Refusals.{orElse, inside}
 use Rattle.mat_elem.specs.Refusals.{firstRefusal, wordsRefusal}
 use Rattle.float_elem.specs.Sums.{sumTo}
 use Rattle.float_elem.specs.Answers.{Told, unless}
@@ -25,7 +25,7 @@ allLong n (cs ∷ parts) = eqb (length cs) n && allLong n parts
 
 -- 2 and then 13 of the term {cre|ann} at the place i, whose coefficient has the parts c
 unfoldable pub termRefusal : ℕ → ℕ → ℕ → ℕ → List Float → Refusal
-termRefusal m i cre ann c = cond (ltb ann (2 ^ m) && ltb cre (2 ^ m)) (cond (allFinite c) none (refusal 13 1 i)) (refusal 2 1 i)
+termRefusal m i cre ann c = cond (inside m cre ann) (cond (allFinite c) none (refusal 13 1 i)) (refusal 2 1 i)
 
 -- mode count and list lengths keep the rules
 unfoldable pub listed : ℕ → List ℕ → List ℕ → List (List Float) → Bool

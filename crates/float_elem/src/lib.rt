@@ -69,14 +69,7 @@ fn is_listed(m: u64, cre: &[u64], ann: &[u64], re: &[f64], im: &[f64]) -> bool
 fn term_refusal(space: ModeSpace, place: u64, cre: u64, ann: u64, c: Complex64) -> Refusal
     ensures { λ r. ⌜ r ≡ termRefusal (space .count) place cre ann (c .re ∷ c .im ∷ []) ⌝ }
 {
-    if !space.contains(ann) {
-        return Refusal {
-            number: 2,
-            operand: 1,
-            place,
-        };
-    }
-    if !space.contains(cre) {
+    if !record::is_inside(space, cre, ann) {
         return Refusal {
             number: 2,
             operand: 1,
