@@ -12,10 +12,11 @@ use borrow.Author.Tests.{ne-eqb}
 use Rattle.modes.specs.Answers.{refusal, none}
 use Rattle.modes.specs.declared.Refusal.{Refusal}
 use Rattle.record.proofs.Refusals.{or-first, or-second}
+use Rattle.mat_elem.specs.Refusals.{firstRefusal, wordsRefusal}
 use Rattle.float_elem.specs.Sums.{sumTo}
 use Rattle.float_elem.specs.Answers.{Told, toldBy, unless}
 use Rattle.float_elem.specs.declared.FloatElement.{FloatElement}
-use Rattle.float_elem.specs.Elements.{allFinite, listed, firstOf, termRefusal, termAt, wordsRefusal, inputRefusal, sumAt, sumRefusal, summed, floatElement}
+use Rattle.float_elem.specs.Elements.{allFinite, listed, termRefusal, termAt, inputRefusal, sumAt, sumRefusal, summed, floatElement}
 
 module _ (m : ℕ) (cre ann : List ℕ) (parts : List (List Float)) (bra ket : ℕ) where
   refused : (r : Refusal) → inputRefusal m cre ann parts bra ket ≡ r → (r .number ≡ 0 → ⊥) → _≡_ {A = Told} (record { refusal = r; values = [] }) (floatElement m cre ann parts bra ket)
@@ -29,7 +30,7 @@ module _ (m : ℕ) (cre ann : List ℕ) (parts : List (List Float)) (bra ket : �
         let one : (refusal 1 1 0) .number ≡ 0 → ⊥ = λ z. absurd (omega arith) in
         refused (refusal 1 1 0) (rw (← el, e) (or-first (refusal 1 1 0) _ one)) one
 
-    module _ (yes : b ≡ true) (t : Refusal) (et : t ≡ firstOf (termAt m cre ann parts) (length cre)) where
+    module _ (yes : b ≡ true) (t : Refusal) (et : t ≡ firstRefusal (termAt m cre ann parts) (length cre)) where
       pub term-refused : (t .number ≡ 0 → ⊥) → _≡_ {A = Told} (record { refusal = t; values = [] }) (floatElement m cre ann parts bra ket)
       unfolding inputRefusal
       term-refused n = refused t (rw (← el, yes, ← et) (or-second none _ refl ∙ or-first t _ n)) n
@@ -68,11 +69,11 @@ module _ (m : ℕ) (cre ann : List ℕ) (cs : List Float) (bra ket : ℕ) where
   unfolding listed
   listed-twice = rw (and-self-left (eqb (length cs) (length cre)) true)
 
-  terms-twice : firstOf (termAt m cre ann (cs ∷ cs ∷ [])) (length cre) ≡ firstOf (termAt m cre ann (cs ∷ [])) (length cre)
+  terms-twice : firstRefusal (termAt m cre ann (cs ∷ cs ∷ [])) (length cre) ≡ firstRefusal (termAt m cre ann (cs ∷ [])) (length cre)
   unfolding termRefusal
   terms-twice =
       let same : (i : ℕ) → termAt m cre ann (cs ∷ cs ∷ []) i ≡ termAt m cre ann (cs ∷ []) i = λ i. rw (finite-twice (getD cs i nan)) in
-      λ j. firstOf (λ i. same i j) (length cre)
+      λ j. firstRefusal (λ i. same i j) (length cre)
 
   inputs-twice : inputRefusal m cre ann (cs ∷ cs ∷ []) bra ket ≡ inputRefusal m cre ann (cs ∷ []) bra ket
   unfolding inputRefusal
@@ -82,7 +83,7 @@ module _ (m : ℕ) (cre ann : List ℕ) (cs : List Float) (bra ket : ℕ) where
   unfolding sumRefusal
   sums-twice =
       let same : (i : ℕ) → sumAt bra ket cre ann (cs ∷ cs ∷ []) i ≡ sumAt bra ket cre ann (cs ∷ []) i = λ i. rw (finite-twice (sumTo bra ket cre ann cs (suc i))) in
-      λ j. firstOf (λ i. same i j) (length cre)
+      λ j. firstRefusal (λ i. same i j) (length cre)
 
   pub one-of-two : (e f : FloatElement) → toldBy e ≡ floatElement m cre ann (cs ∷ cs ∷ []) bra ket → e ≡ f → onePart (toldBy f) ≡ floatElement m cre ann (cs ∷ []) bra ket
   unfolding floatElement

@@ -1,10 +1,10 @@
--- The checks before the sum, case by case: the lists, a term, and the bra and the ket.
+-- The checks before the sum, case by case: the lists, and a term.
 use mathlib.Core.Path.{_≡_, refl, sym, ap, _∙_}
-use mathlib.Core.Bool.{Bool, true, false, cond, _&&_, and-true, and-false}
+use mathlib.Core.Bool.{Bool, true, false, cond, and-true, and-false}
 use mathlib.Core.List.{List, [], _∷_}
-use Prim.Native.Nat.{ℕ, _+_, _^_, _≤_, _<_}
+use Prim.Native.Nat.{ℕ, _≤_, _<_}
 use native.Mathlib.Omega.{arith}
-use lib.Dec.{eqb, ltb, leb}
+use lib.Dec.{eqb, leb}
 use lib.ListN.{length}
 use lib.Ieee.{Float}
 use lib.Ieee.Scale.{finite}
@@ -16,11 +16,9 @@ use Rattle.modes.specs.declared.MadeSpace.{MadeSpace}
 use Rattle.modes.specs.declared.MadeSpace.the-variants.{Refused}
 use Rattle.modes.proofs.Bools.{and-l, and-r}
 use Rattle.record.specs.Layout.{isMade}
-use Rattle.record.specs.Refusals.{orElse}
-use Rattle.record.proofs.Refusals.{or-first, or-second}
-use Rattle.float_elem.specs.Elements.{allFinite, listed, firstOf, termRefusal, termAt}
+use Rattle.record.specs.Refusals.{inside}
+use Rattle.float_elem.specs.Elements.{allFinite, listed, termRefusal}
 use Rattle.float_elem.specs.Lengths.{OneLength}
-use Rattle.float_elem.proofs.Firsts.{first-goes, first-stays}
 
 -- ---- the lists
 
@@ -69,47 +67,25 @@ pub second-decides : (x y : Float) → finite x ≡ true → finite y ≡ allFin
 second-decides x y e = rw (e, and-true)
 
 module _ (m i cre ann : ℕ) (c : List Float) where
-  pub ann-outside : ltb ann (2 ^ m) ≡ false → refusal 2 1 i ≡ termRefusal m i cre ann c
+  pub outside : inside m cre ann ≡ false → refusal 2 1 i ≡ termRefusal m i cre ann c
   unfolding termRefusal
-  ann-outside a = rw a
+  outside e = rw e
 
-  pub cre-outside : ltb cre (2 ^ m) ≡ false → refusal 2 1 i ≡ termRefusal m i cre ann c
-  unfolding termRefusal
-  cre-outside a = rw (a, and-false (ltb ann (2 ^ m)))
-
-  module _ (a : ltb ann (2 ^ m) ≡ true) (b : ltb cre (2 ^ m) ≡ true) where
+  module _ (e : inside m cre ann ≡ true) where
     pub not-finite : allFinite c ≡ false → refusal 13 1 i ≡ termRefusal m i cre ann c
     unfolding termRefusal
-    not-finite f = rw (a, b, f)
+    not-finite f = rw (e, f)
 
     pub right-term : allFinite c ≡ true → none ≡ termRefusal m i cre ann c
     unfolding termRefusal
-    right-term f = rw (a, b, f)
+    right-term f = rw (e, f)
 
   -- a refusal without a number is none
-  pub no-number : termRefusal m i cre ann c .number ≡ 0 → termRefusal m i cre ann c ≡ none
+  pub no-number : (r : Refusal) → r ≡ termRefusal m i cre ann c → r .number ≡ 0 → termRefusal m i cre ann c ≡ none
   unfolding termRefusal
-  no-number = go (ltb ann (2 ^ m) && ltb cre (2 ^ m)) (allFinite c)
+  no-number r e z = go (inside m cre ann) (allFinite c) (ap (λ (x : Refusal). x .number) (sym e) ∙ z)
     where
       go : (a b : Bool) → (cond a (cond b none (refusal 13 1 i)) (refusal 2 1 i)) .number ≡ 0 → cond a (cond b none (refusal 13 1 i)) (refusal 2 1 i) ≡ none
       go true true z = refl
       go true false z = absurd (omega arith)
       go false b z = absurd (omega arith)
-
--- ---- all terms
-
-module _ (m : ℕ) (cre ann : List ℕ) (parts : List (List Float)) (i : ℕ) (so : firstOf (termAt m cre ann parts) i ≡ none) (r : Refusal) (e : r ≡ termAt m cre ann parts i) where
-  pub terms-go : r .number ≡ 0 → firstOf (termAt m cre ann parts) (i + 1) ≡ none
-  terms-go z = first-goes _ i so (no-number _ _ _ _ _ (ap (λ (x : Refusal). x .number) (sym e) ∙ z))
-
-  pub terms-stop : (r .number ≡ 0 → ⊥) → i < length cre → r ≡ firstOf (termAt m cre ann parts) (length cre)
-  terms-stop n l = e ∙ sym (first-stays _ i so (λ z. n (ap (λ (x : Refusal). x .number) e ∙ z)) (length cre) l)
-
--- ---- two refusals in order
-
-module _ (r a b : Refusal) (e : r ≡ a) where
-  pub the-first : (r .number ≡ 0 → ⊥) → r ≡ orElse a b
-  the-first n = sym (ap (λ (x : Refusal). orElse x b) (sym e) ∙ or-first r b n)
-
-  pub the-second : r .number ≡ 0 → b ≡ orElse a b
-  the-second z = sym (ap (λ (x : Refusal). orElse x b) (sym e) ∙ or-second r b z)

@@ -1,6 +1,5 @@
 pub mod Finite
 pub mod Exact
-pub mod Firsts
 pub mod Checking
 pub mod Summing
 pub mod Answering

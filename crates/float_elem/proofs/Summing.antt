@@ -9,17 +9,17 @@ use lib.ListN.{length, getD}
 use lib.Ieee.{Float, nan, add, binary64}
 use borrow.Author.Tests.{eq-eqb, ne-eqb}
 use Rattle.modes.specs.Answers.{refusal, none}
-use Rattle.modes.specs.declared.Refusal.{Refusal}
 use Rattle.modes.specs.declared.Sign.{Sign}
 use Rattle.products.specs.PhaseRule.{Outcome, went, term}
 use Rattle.products.specs.Apply.{applied}
 use Rattle.products.specs.declared.ApplyResult.the-variants.{Applied, Zero}
 use Rattle.products.proofs.Outcomes.{outcome-gone, outcome-went}
+use Rattle.mat_elem.specs.Refusals.{firstRefusal}
+use Rattle.mat_elem.proofs.FirstRefusals.{first-starts, first-goes, first-stays}
 use Rattle.float_elem.specs.declared.Complex64.{Complex64}
 use Rattle.float_elem.specs.Sums.{plusZero, signed, added, joined, sumTo}
 use Rattle.float_elem.specs.Answers.{Told, unless}
-use Rattle.float_elem.specs.Elements.{allFinite, firstOf, sumAt, sumRefusal, summed}
-use Rattle.float_elem.proofs.Firsts.{first-starts, first-goes, first-stays}
+use Rattle.float_elem.specs.Elements.{allFinite, sumAt, sumRefusal, summed}
 
 -- ---- one term and one part
 
@@ -61,7 +61,7 @@ module _ (bra ket cre ann : ℕ) where
 pub record Running (bra ket : ℕ) (cre ann : List ℕ) (re im : List Float) (x y : Float) (i : ℕ) : Type 0 where
   pub res : x ≡ sumTo bra ket cre ann re i
   pub ims : y ≡ sumTo bra ket cre ann im i
-  pub fine : firstOf (sumAt bra ket cre ann (re ∷ im ∷ [])) i ≡ none
+  pub fine : firstRefusal (sumAt bra ket cre ann (re ∷ im ∷ [])) i ≡ none
 
 module _ (bra ket : ℕ) (cre ann : List ℕ) (re im : List Float) where
   pub sums-start : (i : ℕ) → i ≡ 0 → Running bra ket cre ann re im plusZero plusZero i
@@ -83,9 +83,7 @@ module _ (bra ket : ℕ) (cre ann : List ℕ) (re im : List Float) where
 
     pub sums-stop : allFinite (z ∷ w ∷ []) ≡ false → i < length cre → _≡_ {A = Told} (record { refusal = refusal 13 1 i; values = [] }) (summed bra ket cre ann (re ∷ im ∷ []))
     unfolding sumRefusal unless
-    sums-stop e l =
-        let has : sumAt bra ket cre ann (re ∷ im ∷ []) i .number ≡ 0 → ⊥ = λ q. absurd (omega (arith, ap (λ (r : Refusal). r .number) (at false e))) in
-        rw (first-stays _ i (so .fine) has (length cre) l, at false e)
+    sums-stop e l = rw (← first-stays _ i (so .fine) _ (sym (at false e)) (λ q. omega arith) (length cre) l)
 
   pub sums-end : (x y : Float) (i : ℕ) → Running bra ket cre ann re im x y i → i ≡ length cre → _≡_ {A = Told} (record { refusal = none; values = x ∷ y ∷ [] }) (summed bra ket cre ann (re ∷ im ∷ []))
   unfolding sumRefusal unless

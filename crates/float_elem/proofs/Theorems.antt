@@ -1,14 +1,14 @@
 -- Theorems on float elements: every value that comes out is finite; and with exactly one joining term it is that term's coefficient, signed, exactly.
 use mathlib.Core.Path.{_≡_, refl, sym, ap, ap₂, _∙_}
-use mathlib.Core.Bool.{Bool, true, false, cond, _&&_}
+use mathlib.Core.Bool.{Bool, true, false, cond}
 use mathlib.Core.List.{List, [], _∷_, map}
 use mathlib.Core.Logic.{⊎-elim}
-use Prim.Native.Nat.{ℕ, zero, suc, _+_, _-_, _^_, _≤_, _<_}
+use Prim.Native.Nat.{ℕ, zero, suc, _+_, _-_, _≤_, _<_}
 use native.Mathlib.Nat.{add-zero, add-suc}
 use native.Mathlib.Numerals.{add-one}
 use native.Mathlib.Omega.{arith}
-use borrow.Author.Tests.{eq-eqb, ne-eqb, eqb-true, eqb-false}
-use lib.Dec.{T, eqb, ltb}
+use borrow.Author.Tests.{eq-eqb, ne-eqb, eqb-true}
+use lib.Dec.{T, eqb}
 use lib.ListN.{length, getD}
 use lib.Ieee.{Float, nan, inf, fin, neg, binary64, fits}
 use lib.Ieee.Scale.{finite}
@@ -17,39 +17,24 @@ use Rattle.modes.specs.Answers.{refusal, none}
 use Rattle.modes.specs.declared.Refusal.{Refusal}
 use Rattle.modes.proofs.Bools.{and-l, and-r}
 use Rattle.modes.proofs.Digits.{lt-or-ge}
-use Rattle.products.specs.PhaseRule.{Outcome, gone, went, term}
+use Rattle.products.specs.PhaseRule.{Outcome, gone, went}
 use Rattle.products.specs.Lists.{Each}
-use Rattle.record.specs.Refusals.{orElse}
+use Rattle.record.specs.Refusals.{orElse, inside}
 use Rattle.record.proofs.Refusals.{or-second}
+use Rattle.record.proofs.Accepted.{neither}
+use Rattle.mat_elem.specs.Refusals.{firstRefusal}
+use Rattle.mat_elem.proofs.FirstRefusals.{first-starts, first-none, first-goes}
 use Rattle.float_elem.specs.Sums.{plusZero, signed, added, sumTo}
 use Rattle.float_elem.specs.Answers.{Told, unless}
-use Rattle.float_elem.specs.Elements.{allFinite, firstOf, termRefusal, termAt, inputRefusal, sumsTo, sumAt, sumRefusal, floatElement}
+use Rattle.float_elem.specs.Elements.{allFinite, termRefusal, termAt, inputRefusal, sumsTo, sumAt, sumRefusal, floatElement}
 use Rattle.float_elem.specs.Single.{exactly, Doubles, OnlyJoins}
 use Rattle.float_elem.proofs.Exact.{one-term}
-use Rattle.float_elem.proofs.Firsts.{first-starts, first-goes}
 
--- ---- refusals without a number
-
-or-both : (r s : Refusal) → orElse r s .number ≡ 0 → (r .number ≡ 0) × (s .number ≡ 0)
-unfolding orElse
-or-both r s z = go (eqb (r .number) 0) refl z
-  where
-    go : (b : Bool) → eqb (r .number) 0 ≡ b → (cond b s r) .number ≡ 0 → (r .number ≡ 0) × (s .number ≡ 0)
-    go true e q = (eqb-true _ _ e, q)
-    go false e q = absurd (eqb-false _ _ e q)
-
-first-all : (r : ℕ → Refusal) (n i : ℕ) → firstOf r n .number ≡ 0 → i < n → r i .number ≡ 0
-unfolding firstOf
-first-all r zero i z l = absurd (omega arith)
-first-all r (suc n) i z l =
-    let both = or-both (firstOf r n) (r n) z in
-    ⊎-elim (λ h. first-all r n i (both .0) h) (λ h. let e : n ≡ i = omega arith in ap (λ (j : ℕ). r j .number) (sym e) ∙ both .1) (lt-or-ge i n)
+-- ---- every value that comes out is finite
 
 finite-there : (b : Bool) (i : ℕ) → (cond b none (refusal 13 1 i)) .number ≡ 0 → b ≡ true
 finite-there true i z = refl
 finite-there false i z = absurd (omega arith)
-
--- ---- every value that comes out is finite
 
 module _ (bra ket : ℕ) (cre ann : List ℕ) where
   start-finite : (parts : List (List Float)) → allFinite (sumsTo bra ket cre ann parts 0) ≡ true
@@ -57,9 +42,9 @@ module _ (bra ket : ℕ) (cre ann : List ℕ) where
   start-finite [] = refl
   start-finite (cs ∷ parts) = start-finite parts
 
-  sums-finite : (parts : List (List Float)) (n : ℕ) → firstOf (sumAt bra ket cre ann parts) n .number ≡ 0 → allFinite (sumsTo bra ket cre ann parts n) ≡ true
+  sums-finite : (parts : List (List Float)) (n : ℕ) → firstRefusal (sumAt bra ket cre ann parts) n .number ≡ 0 → allFinite (sumsTo bra ket cre ann parts n) ≡ true
   sums-finite parts zero z = start-finite parts
-  sums-finite parts (suc n) z = finite-there _ n (first-all (sumAt bra ket cre ann parts) (suc n) n z (omega arith))
+  sums-finite parts (suc n) z = finite-there _ n (first-none (sumAt bra ket cre ann parts) (suc n) n z (omega arith))
 
 pub values-finite : (m : ℕ) (cre ann : List ℕ) (parts : List (List Float)) (bra ket : ℕ) → allFinite (floatElement m cre ann parts bra ket .values) ≡ true
 unfolding floatElement unless sumRefusal
@@ -69,7 +54,7 @@ values-finite m cre ann parts bra ket = go (eqb (r .number) 0) refl
     r = orElse (inputRefusal m cre ann parts bra ket) (sumRefusal bra ket cre ann parts)
 
     go : (b : Bool) → eqb (r .number) 0 ≡ b → allFinite ((cond {A = Told} b (record { refusal = none; values = sumsTo bra ket cre ann parts (length cre) }) (record { refusal = r; values = [] })) .values) ≡ true
-    go true e = sums-finite bra ket cre ann parts (length cre) (or-both _ _ (eqb-true _ _ e) .1)
+    go true e = sums-finite bra ket cre ann parts (length cre) (neither _ _ (eqb-true _ _ e) .1)
     go false e = refl
 
 -- ---- exactly one joining term
@@ -134,10 +119,10 @@ module _ (bra ket : ℕ) (cre ann : List ℕ) (n i : ℕ) (s : Bool) (only : Onl
       rw (finite-so-far cs (d .0) (and-l (finite (getD cs i nan)) _ f) k h) (all-so-far parts (d .1) (and-r (finite (getD cs i nan)) _ f) k h)
 
   none-stops : (parts : List (List Float)) → Each Doubles parts → allFinite (map (λ cs. getD cs i nan) parts) ≡ true → (k : ℕ) → k ≤ n
-      → firstOf (sumAt bra ket cre ann parts) k ≡ none
+      → firstRefusal (sumAt bra ket cre ann parts) k ≡ none
   none-stops parts d f zero h = first-starts _
   none-stops parts d f (suc k) h =
-      sym (ap (firstOf (sumAt bra ket cre ann parts)) (add-one k)) ∙ first-goes _ k (none-stops parts d f k (omega arith)) (rw (all-so-far parts d f (suc k) h))
+      sym (ap (firstRefusal (sumAt bra ket cre ann parts)) (add-one k)) ∙ first-goes _ k (none-stops parts d f k (omega arith)) (rw (all-so-far parts d f (suc k) h))
 
   all-came : (parts : List (List Float)) → Each Doubles parts → sumsTo bra ket cre ann parts n ≡ map came parts
   all-came [] d = refl
@@ -145,7 +130,7 @@ module _ (bra ket : ℕ) (cre ann : List ℕ) (n i : ℕ) (s : Bool) (only : Onl
 
 term-finite : (m i cre ann : ℕ) (c : List Float) → termRefusal m i cre ann c .number ≡ 0 → allFinite c ≡ true
 unfolding termRefusal
-term-finite m i cre ann c = go (ltb ann (2 ^ m) && ltb cre (2 ^ m))
+term-finite m i cre ann c = go (inside m cre ann)
   where
     go : (b : Bool) → (cond b (cond (allFinite c) none (refusal 13 1 i)) (refusal 2 1 i)) .number ≡ 0 → allFinite c ≡ true
     go true z = finite-there _ i z
@@ -157,6 +142,6 @@ pub one-joining : (m : ℕ) (cre ann : List ℕ) (parts : List (List Float)) (br
     → _≡_ {A = Told} (floatElement m cre ann parts bra ket) (record { refusal = none; values = map (λ cs. exactly (signed s (getD cs i nan))) parts })
 unfolding floatElement inputRefusal sumRefusal unless
 one-joining m cre ann parts bra ket i s d z only =
-    let terms = or-both _ _ (or-both _ _ z .1) .0 in
-    let there = term-finite m i _ _ _ (first-all (termAt m cre ann parts) (length cre) i terms (only .inside)) in
+    let terms = neither _ _ (neither _ _ z .1) .0 in
+    let there = term-finite m i _ _ _ (first-none (termAt m cre ann parts) (length cre) i terms (only .inside)) in
     rw (or-second (inputRefusal m cre ann parts bra ket) (sumRefusal bra ket cre ann parts) z, none-stops bra ket cre ann (length cre) i s only parts d there (length cre) (omega arith), all-came bra ket cre ann (length cre) i s only parts d)

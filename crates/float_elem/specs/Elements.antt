@@ -1,8 +1,8 @@
 -- The element of a list of terms with float coefficients at (bra, ket). A coefficient has one part, a real, or two, re and im; `parts` holds a list of floats for each.
 use mathlib.Core.Bool.{Bool, true, cond, _&&_}
 use mathlib.Core.List.{List, [], _∷_, map}
-use Prim.Native.Nat.{ℕ, zero, suc, _^_}
-use lib.Dec.{eqb, ltb, leb}
+use Prim.Native.Nat.{ℕ, suc}
+use lib.Dec.{eqb, leb}
 use lib.ListN.{length, getD}
 use lib.Ieee.{Float, nan}
 use lib.Ieee.Scale.{finite}
@@ -10,8 +10,8 @@ use Rattle.modes.specs.Spaces.{spaceOf}
 use Rattle.modes.specs.Answers.{refusal, none}
 use Rattle.modes.specs.declared.Refusal.{Refusal}
 use Rattle.record.specs.Layout.{isMade}
-use Rattle.record.specs.Refusals.{orElse}
-use Rattle.mat_elem.specs.Elements.{wordRefusal}
+use Rattle.record.specs.Refusals.{orElse, inside}
+use Rattle.mat_elem.specs.Refusals.{firstRefusal, wordsRefusal}
 use Rattle.float_elem.specs.Sums.{sumTo}
 use Rattle.float_elem.specs.Answers.{Told, unless}
 
@@ -23,18 +23,9 @@ abbrev pub allLong : ℕ → List (List Float) → Bool
 allLong n [] = true
 allLong n (cs ∷ parts) = eqb (length cs) n && allLong n parts
 
--- the first refusal of those at the places below n
-unfoldable pub firstOf : (ℕ → Refusal) → ℕ → Refusal
-firstOf r zero = none
-firstOf r (suc n) = orElse (firstOf r n) (r n)
-
 -- 2 and then 13 of the term {cre|ann} at the place i, whose coefficient has the parts c
 unfoldable pub termRefusal : ℕ → ℕ → ℕ → ℕ → List Float → Refusal
-termRefusal m i cre ann c = cond (ltb ann (2 ^ m) && ltb cre (2 ^ m)) (cond (allFinite c) none (refusal 13 1 i)) (refusal 2 1 i)
-
--- 12 of the bra and then of the ket
-abbrev pub wordsRefusal : ℕ → ℕ → ℕ → Refusal
-wordsRefusal m bra ket = orElse (wordRefusal m 3 0 bra) (wordRefusal m 4 0 ket)
+termRefusal m i cre ann c = cond (inside m cre ann) (cond (allFinite c) none (refusal 13 1 i)) (refusal 2 1 i)
 
 -- mode count and list lengths keep the rules
 unfoldable pub listed : ℕ → List ℕ → List ℕ → List (List Float) → Bool
@@ -47,7 +38,7 @@ termAt m cre ann parts i = termRefusal m i (getD cre i 0) (getD ann i 0) (map (�
 -- 1; then term by term 2 and 13; then 12 of the bra and of the ket
 unfoldable pub inputRefusal : ℕ → List ℕ → List ℕ → List (List Float) → ℕ → ℕ → Refusal
 inputRefusal m cre ann parts bra ket =
-    orElse (cond (listed m cre ann parts) none (refusal 1 1 0)) (orElse (firstOf (termAt m cre ann parts) (length cre)) (wordsRefusal m bra ket))
+    orElse (cond (listed m cre ann parts) none (refusal 1 1 0)) (orElse (firstRefusal (termAt m cre ann parts) (length cre)) (wordsRefusal m bra ket))
 
 -- the sums of all parts over the first n terms
 abbrev pub sumsTo : ℕ → ℕ → List ℕ → List ℕ → List (List Float) → ℕ → List Float
@@ -58,7 +49,7 @@ abbrev pub sumAt : ℕ → ℕ → List ℕ → List ℕ → List (List Float) �
 sumAt bra ket cre ann parts i = cond (allFinite (sumsTo bra ket cre ann parts (suc i))) none (refusal 13 1 i)
 
 unfoldable pub sumRefusal : ℕ → ℕ → List ℕ → List ℕ → List (List Float) → Refusal
-sumRefusal bra ket cre ann parts = firstOf (sumAt bra ket cre ann parts) (length cre)
+sumRefusal bra ket cre ann parts = firstRefusal (sumAt bra ket cre ann parts) (length cre)
 
 -- the sums alone: 13 of the first running sum that isn't finite, or the sums over all terms
 abbrev pub summed : ℕ → ℕ → List ℕ → List ℕ → List (List Float) → Told

@@ -7,10 +7,10 @@ ghost use mathlib.Core.Path.{_≡_};
 ghost use mathlib.Core.List.{[], _∷_};
 ghost use lib.Ieee.Scale.{finite};
 ghost use lib.ListN.{length};
-ghost use Rattle.mat_elem.specs.Elements.{wordRefusal};
+ghost use Rattle.mat_elem.specs.Refusals.{firstRefusal};
 ghost use Rattle.float_elem.specs.Sums.{joined};
 ghost use Rattle.float_elem.specs.Answers.{toldBy};
-ghost use Rattle.float_elem.specs.Elements.{allFinite, listed, termRefusal, termAt, firstOf, wordsRefusal, summed, floatElement};
+ghost use Rattle.float_elem.specs.Elements.{allFinite, listed, termRefusal, termAt, summed, floatElement};
 ghost use Rattle.float_elem.specs.Lengths.{OneLength};
 
 // A complex number; also the running sum of an element.
@@ -69,14 +69,7 @@ fn is_listed(m: u64, cre: &[u64], ann: &[u64], re: &[f64], im: &[f64]) -> bool
 fn term_refusal(space: ModeSpace, place: u64, cre: u64, ann: u64, c: Complex64) -> Refusal
     ensures { λ r. ⌜ r ≡ termRefusal (space .count) place cre ann (c .re ∷ c .im ∷ []) ⌝ }
 {
-    if !space.contains(ann) {
-        return Refusal {
-            number: 2,
-            operand: 1,
-            place,
-        };
-    }
-    if !space.contains(cre) {
+    if !record::is_inside(space, cre, ann) {
         return Refusal {
             number: 2,
             operand: 1,
@@ -96,7 +89,7 @@ fn term_refusal(space: ModeSpace, place: u64, cre: u64, ann: u64, c: Complex64) 
 // The first refusal of a term.
 fn check_terms(m: u64, cre: &[u64], ann: &[u64], re: &[f64], im: &[f64]) -> Refusal
     requires { ⌜ OneLength (length (now cre)) (now ann) (now re) (now im) ⌝ }
-    ensures { λ r. ⌜ r ≡ firstOf (termAt m (now (cre .entry)) (now (ann .entry)) (now (re .entry) ∷ now (im .entry) ∷ [])) (length (now (cre .entry))) ⌝ }
+    ensures { λ r. ⌜ r ≡ firstRefusal (termAt m (now (cre .entry)) (now (ann .entry)) (now (re .entry) ∷ now (im .entry) ∷ [])) (length (now (cre .entry))) ⌝ }
 {
     let space = ModeSpace { count: m };
     let mut i = 0;
@@ -112,32 +105,6 @@ fn check_terms(m: u64, cre: &[u64], ann: &[u64], re: &[f64], im: &[f64]) -> Refu
         i += 1;
     }
     Refusal::NONE
-}
-
-// Number 12 of a word that the caller names as an operand.
-fn word_refusal(m: u64, operand: u64, word: u64) -> Refusal
-    ensures { λ r. ⌜ r ≡ wordRefusal m operand 0 word ⌝ }
-{
-    let space = ModeSpace { count: m };
-    if space.contains(word) {
-        return Refusal::NONE;
-    }
-    Refusal {
-        number: 12,
-        operand,
-        place: 0,
-    }
-}
-
-// The bra is checked before the ket.
-fn check_words(m: u64, bra: u64, ket: u64) -> Refusal
-    ensures { λ r. ⌜ r ≡ wordsRefusal m bra ket ⌝ }
-{
-    let r = word_refusal(m, 3, bra);
-    if r.number != 0 {
-        return r;
-    }
-    word_refusal(m, 4, ket)
 }
 
 // The sum and one term: its coefficient, or the negation where its sign is minus, is added if it takes ket to bra.
@@ -212,7 +179,8 @@ pub fn mat_elem_complex(
     if terms.number != 0 {
         return FloatElement::Refused(terms);
     }
-    let words = check_words(m, bra, ket);
+    let space = ModeSpace { count: m };
+    let words = mat_elem::words_refusal(space, bra, ket);
     if words.number != 0 {
         return FloatElement::Refused(words);
     }

@@ -1,46 +1,15 @@
--- The walks over a basis: the first refusal of the words left, and whether a word stands among those passed.
+-- The walk over a basis: whether a word stands among those passed.
 use mathlib.Core.Path.{_≡_, refl, sym, ap, _∙_}
-use mathlib.Core.Bool.{Bool, true, false, _||_, or-true}
+use mathlib.Core.Bool.{Bool, true, false, _||_}
 use mathlib.Core.List.{List, [], _∷_, _++_}
-use Prim.Native.Nat.{ℕ, zero, suc, _+_, _-_, _≤_, _<_}
+use Prim.Native.Nat.{ℕ, zero, suc, _+_, _≤_, _<_}
 use native.Mathlib.Omega.{arith}
 use native.Mathlib.Numerals.{add-one}
 use lib.Dec.{eqb}
 use lib.ListN.{length, getD, take}
 use lib.Seq.{take-suc, getD-take, length-take-le}
 use borrow.Author.Tests.{eq-eqb, ne-eqb}
-use Rattle.modes.specs.Answers.{none}
-use Rattle.modes.specs.declared.Refusal.{Refusal}
-use Rattle.record.specs.Refusals.{orElse}
-use Rattle.record.proofs.Refusals.{or-first, or-second}
-use Rattle.mat_elem.specs.Matrix.{firstRefusal, stands}
-
--- ---- the first refusal
-
--- what is left of n indices from the i-th on
-abbrev pub Passed : (ℕ → Refusal) → ℕ → ℕ → Type 0
-Passed f n i = firstRefusal f 0 n ≡ firstRefusal f i (n - i)
-
-module _ (f : ℕ → Refusal) (n : ℕ) where
-  pub none-passed : Passed f n 0
-  none-passed = let e : n - 0 ≡ n = omega arith in rw e
-
-  module _ (i : ℕ) (g : Passed f n i) where
-    next : i < n → firstRefusal f 0 n ≡ orElse (f i) (firstRefusal f (i + 1) (n - (i + 1)))
-    unfolding firstRefusal
-    next h = let e : n - i ≡ suc (n - (i + 1)) = omega arith in g ∙ rw (e, add-one i)
-
-    pub passes : i < n → f i ≡ none → Passed f n (i + 1)
-    passes h e = next h ∙ rw e (or-second none _ refl)
-
-    pub stops : i < n → (r : Refusal) → f i ≡ r → (r .number ≡ 0 → ⊥) → r ≡ firstRefusal f 0 n
-    stops h r e k = sym (next h ∙ rw e (or-first r _ k))
-
-    pub all-passed : n ≤ i → none ≡ firstRefusal f 0 n
-    unfolding firstRefusal
-    all-passed h = let e : n - i ≡ 0 = omega arith in sym (g ∙ rw e)
-
--- ---- a word among others
+use Rattle.mat_elem.specs.Matrix.{stands}
 
 stands-last : (w y : ℕ) (xs : List ℕ) → stands w (xs ++ (y ∷ [])) ≡ stands w xs || eqb y w
 unfolding stands

@@ -3,26 +3,25 @@ use mathlib.Core.Path.{_≡_, refl, sym, ap, _∙_}
 use mathlib.Core.Bool.{Bool, true, false, cond}
 use mathlib.Core.List.{List, [], _∷_, _++_, map}
 use mathlib.Core.Logic.{_⊎_, inl, inr}
-use Prim.Native.Nat.{ℕ, zero, suc, _+_, _-_, _^_, _≤_, _<_}
-use native.Mathlib.Nat.{zero-add}
+use Prim.Native.Nat.{ℕ, zero, suc, _-_, _^_, _≤_, _<_}
 use native.Mathlib.Omega.{arith}
 use lib.Dec.{eqb, ltb}
-use lib.IntN.{ℤ, pos}
+use lib.IntN.{pos}
 use lib.ListN.{length, getD, replicate}
 use borrow.Author.Tests.{eq-eqb, eqb-true}
-use Rattle.modes.specs.Answers.{refusal, none}
-use Rattle.modes.specs.declared.Refusal.{Refusal}
+use Rattle.modes.specs.Answers.{none}
 use Rattle.modes.specs.declared.Term.{Term}
 use Rattle.modes.proofs.Digits.{lt-or-ge}
 use Rattle.products.specs.Operators.{element}
 use Rattle.record.specs.Layout.{modesOf, termsOf}
 use Rattle.record.specs.Refusals.{orElse, refusalOf}
 use Rattle.record.proofs.Accepted.{neither, accepted-none}
-use Rattle.mat_elem.specs.Elements.{wordRefusal, elementRefusal, elementOf}
-use Rattle.mat_elem.specs.Matrix.{firstRefusal, outsideAt, basisRefusal, rowOf, zeroRow, matrixOf, entryAt, refusedMatrix, projectedRefusal, projectedOf}
-use Rattle.mat_elem.specs.declared.Exact.{Exact}
+use Rattle.mat_elem.specs.Elements.{elementRefusal, elementOf}
+use Rattle.mat_elem.specs.Matrix.{outsideAt, basisRefusal, rowOf, zeroRow, matrixOf, entryAt, refusedMatrix, projectedRefusal, projectedOf}
 use Rattle.mat_elem.specs.declared.Row.{Row}
 use Rattle.mat_elem.specs.declared.Projected.{Projected}
+use Rattle.mat_elem.proofs.Words.{word-inside}
+use Rattle.mat_elem.proofs.FirstRefusals.{first-none}
 
 -- ---- eight entries
 
@@ -64,21 +63,6 @@ module _ (ts : List Term) (basis : List ℕ) where
 
 -- ---- a basis that is not refused
 
-no-refusal : (f : ℕ → Refusal) (i k : ℕ) → (firstRefusal f i k) .number ≡ 0 → (t : ℕ) → t < k → (f (i + t)) .number ≡ 0
-unfolding firstRefusal
-no-refusal f i zero z t h = absurd (omega arith)
-no-refusal f i (suc k) z zero h = let e : i + 0 ≡ i = omega arith in rw e (neither (f i) (firstRefusal f (suc i) k) z .0)
-no-refusal f i (suc k) z (suc t) h =
-    let e : i + suc t ≡ suc i + t = omega arith in
-    rw e (no-refusal f (suc i) k (neither (f i) (firstRefusal f (suc i) k) z .1) t (omega arith))
-
-word-inside : (m o p w : ℕ) → (wordRefusal m o p w) .number ≡ 0 → ltb w (2 ^ m) ≡ true
-word-inside m o p w z = go (ltb w (2 ^ m)) z
-  where
-    go : (b : Bool) → (cond b none (refusal 12 o p)) .number ≡ 0 → b ≡ true
-    go true q = refl
-    go false q = absurd (omega arith)
-
 module _ (a basis : List ℕ) (r : Projected) (e : r ≡ projectedOf a basis) (ok : r .refusal .number ≡ 0) where
   fine : (projectedRefusal a basis) .number ≡ 0
   unfolding projectedOf
@@ -105,7 +89,7 @@ module _ (a basis : List ℕ) (r : Projected) (e : r ≡ projectedOf a basis) (o
   unfolding basisRefusal
   inside i h =
       word-inside (modesOf a) 3 i (getD basis i 0)
-      (rw zero-add at (no-refusal (outsideAt (modesOf a) basis) 0 (length basis) (neither _ _ (neither _ _ basis-fine .1) .0) i h))
+      (first-none (outsideAt (modesOf a) basis) (length basis) i (neither _ _ (neither _ _ basis-fine .1) .0) h)
 
   -- at two basis words the entry is what `element` answers at this bra and ket
   pub entry-is : (i j : ℕ) → i < length basis → j < length basis

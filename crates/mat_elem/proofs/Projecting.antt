@@ -4,19 +4,20 @@ use mathlib.Core.Bool.{Bool, true, false, cond}
 use mathlib.Core.List.{List}
 use Prim.Native.Nat.{ℕ, _+_, _*_, _^_, _≤_, _<_}
 use native.Mathlib.Omega.{arith}
-use lib.Dec.{eqb, leb}
+use lib.Dec.{leb}
 use lib.ListN.{length}
 use borrow.Author.Tests.{eq-eqb, ne-eqb, le-leb, lt-leb, leb-true}
 use Rattle.modes.specs.Answers.{refusal, none}
 use Rattle.modes.specs.declared.Refusal.{Refusal}
 use Rattle.modes.specs.declared.Term.{Term}
 use Rattle.record.specs.Terms.{weight}
-use Rattle.record.specs.Layout.{modesOf, termsIn, termsOf}
+use Rattle.record.specs.Layout.{termsIn, termsOf}
 use Rattle.record.specs.Refusals.{orElse, refusalOf, checkedOf}
 use Rattle.record.specs.declared.Checked.{Checked}
 use Rattle.record.proofs.Refusals.{or-first, or-second}
 use Rattle.record.proofs.Accepted.{neither, Accepted, accepted, readable, refused}
-use Rattle.mat_elem.specs.Matrix.{firstRefusal, outsideAt, repeatAt, basisRefusal, matrixOf, refusedMatrix, projectedRefusal, projectedOf}
+use Rattle.mat_elem.specs.Refusals.{firstRefusal}
+use Rattle.mat_elem.specs.Matrix.{outsideAt, repeatAt, basisRefusal, matrixOf, refusedMatrix, projectedRefusal, projectedOf}
 use Rattle.mat_elem.specs.declared.Projected.{Projected}
 
 -- ---- the basis
@@ -27,14 +28,14 @@ module _ (m : ℕ) (basis : List ℕ) where
   basis-long h = sym (rw (lt-leb _ _ h) (or-first (refusal 14 3 0) _ (λ q. omega arith)))
 
   module _ (h : length basis ≤ 8) where
-    after-length : basisRefusal m basis ≡ orElse (firstRefusal (outsideAt m basis) 0 (length basis)) (firstRefusal (repeatAt basis) 0 (length basis))
+    after-length : basisRefusal m basis ≡ orElse (firstRefusal (outsideAt m basis) (length basis)) (firstRefusal (repeatAt basis) (length basis))
     unfolding basisRefusal
     after-length = rw (le-leb _ _ h) (or-second none _ refl)
 
-    pub basis-outside : (r : Refusal) → r ≡ firstRefusal (outsideAt m basis) 0 (length basis) → (r .number ≡ 0 → ⊥) → r ≡ basisRefusal m basis
+    pub basis-outside : (r : Refusal) → r ≡ firstRefusal (outsideAt m basis) (length basis) → (r .number ≡ 0 → ⊥) → r ≡ basisRefusal m basis
     basis-outside r e n = sym (after-length ∙ rw (← e) (or-first r _ n))
 
-    pub basis-repeats : (r q : Refusal) → r ≡ firstRefusal (outsideAt m basis) 0 (length basis) → r .number ≡ 0 → q ≡ firstRefusal (repeatAt basis) 0 (length basis)
+    pub basis-repeats : (r q : Refusal) → r ≡ firstRefusal (outsideAt m basis) (length basis) → r .number ≡ 0 → q ≡ firstRefusal (repeatAt basis) (length basis)
         → q ≡ basisRefusal m basis
     basis-repeats r q e z f = sym (after-length ∙ rw (← e, ← f) (or-second r q z))
 

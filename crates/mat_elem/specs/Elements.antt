@@ -1,22 +1,19 @@
 -- The exact element of a record at (bra, ket): the operator's refusals, then 12 for the bra, then 12 for the ket.
 use mathlib.Core.Bool.{cond}
 use mathlib.Core.List.{List}
-use Prim.Native.Nat.{ℕ, _^_}
-use lib.Dec.{eqb, ltb}
+use Prim.Native.Nat.{ℕ}
+use lib.Dec.{eqb}
 use lib.IntN.{pos}
-use Rattle.modes.specs.Answers.{refusal, none}
+use Rattle.modes.specs.Answers.{none}
 use Rattle.modes.specs.declared.Refusal.{Refusal}
 use Rattle.products.specs.Operators.{element}
 use Rattle.record.specs.Layout.{modesOf, termsOf}
 use Rattle.record.specs.Refusals.{orElse, refusalOf}
+use Rattle.mat_elem.specs.Refusals.{wordsRefusal}
 use Rattle.mat_elem.specs.declared.Exact.{Exact}
 
--- 12 where the word holds a mode outside m
-abbrev pub wordRefusal : ℕ → ℕ → ℕ → ℕ → Refusal
-wordRefusal m operand place w = cond (ltb w (2 ^ m)) none (refusal 12 operand place)
-
 unfoldable pub elementRefusal : List ℕ → ℕ → ℕ → Refusal
-elementRefusal a bra ket = orElse (refusalOf 1 a) (orElse (wordRefusal (modesOf a) 3 0 bra) (wordRefusal (modesOf a) 4 0 ket))
+elementRefusal a bra ket = orElse (refusalOf 1 a) (wordsRefusal (modesOf a) bra ket)
 
 abbrev pub refusedElement : Refusal → Exact
 refusedElement r = record { refusal = r; value = pos 0 }

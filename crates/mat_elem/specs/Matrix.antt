@@ -1,8 +1,8 @@
 -- The projected matrix of a record on a basis of up to eight words: row the bra, column the ket.
 use mathlib.Core.Path.{_≡_}
-use mathlib.Core.Bool.{Bool, true, false, cond, _||_}
+use mathlib.Core.Bool.{Bool, false, cond, _||_}
 use mathlib.Core.List.{List, [], _∷_, _++_, map}
-use Prim.Native.Nat.{ℕ, zero, suc, _-_, _<_}
+use Prim.Native.Nat.{ℕ, _-_, _<_}
 use lib.Dec.{eqb, leb}
 use lib.IntN.{ℤ, pos}
 use lib.ListN.{length, getD, take, replicate}
@@ -14,14 +14,9 @@ use Rattle.modes.specs.declared.Term.{Term}
 use Rattle.products.specs.Operators.{element}
 use Rattle.record.specs.Layout.{modesOf, termsOf}
 use Rattle.record.specs.Refusals.{orElse, refusalOf}
-use Rattle.mat_elem.specs.Elements.{wordRefusal}
+use Rattle.mat_elem.specs.Refusals.{firstRefusal, wordRefusal}
 use Rattle.mat_elem.specs.declared.Row.{Row}
 use Rattle.mat_elem.specs.declared.Projected.{Projected}
-
--- the first refusal of those at the k indices from i on
-unfoldable pub firstRefusal : (ℕ → Refusal) → ℕ → ℕ → Refusal
-firstRefusal f i zero = none
-firstRefusal f i (suc k) = let later = firstRefusal f (suc i) k in orElse (f i) later
 
 -- 12 of the basis word at index i
 abbrev pub outsideAt : ℕ → List ℕ → ℕ → Refusal
@@ -40,7 +35,7 @@ repeatAt basis i = cond (stands (getD basis i 0) (take i basis)) (refusal 14 3 i
 unfoldable pub basisRefusal : ℕ → List ℕ → Refusal
 basisRefusal m basis =
     orElse (cond (leb (length basis) 8) none (refusal 14 3 0))
-    (orElse (firstRefusal (outsideAt m basis) 0 (length basis)) (firstRefusal (repeatAt basis) 0 (length basis)))
+    (orElse (firstRefusal (outsideAt m basis) (length basis)) (firstRefusal (repeatAt basis) (length basis)))
 
 -- the values of f for the basis words, and z up to eight
 abbrev pub upToEight : {A : Type 0} → (ℕ → A) → A → List ℕ → List A

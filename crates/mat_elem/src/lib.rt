@@ -11,8 +11,9 @@ ghost use Rattle.products.specs.Operators.{part, element};
 ghost use Rattle.modes.specs.Answers.{none};
 ghost use Rattle.record.specs.Terms.{weight};
 ghost use Rattle.record.specs.Layout.{termsIn};
+ghost use Rattle.mat_elem.specs.Refusals.{firstRefusal, wordRefusal, wordsRefusal};
 ghost use Rattle.mat_elem.specs.Elements.{refusedElement, elementOf};
-ghost use Rattle.mat_elem.specs.Matrix.{firstRefusal, outsideAt, stands, repeatAt, basisRefusal, rowOf, matrixOf, refusedMatrix, projectedOf};
+ghost use Rattle.mat_elem.specs.Matrix.{outsideAt, stands, repeatAt, basisRefusal, rowOf, matrixOf, refusedMatrix, projectedOf};
 
 // An exact element; 0 where it is refused.
 pub struct Exact {
@@ -26,6 +27,31 @@ impl Exact {
     {
         Exact { refusal, value: 0 }
     }
+}
+
+// Number 12 of a word that the caller names, where it holds a mode outside.
+pub fn word_refusal(space: ModeSpace, operand: u64, place: u64, word: u64) -> Refusal
+    ensures { λ r. ⌜ r ≡ wordRefusal (space .count) operand place word ⌝ }
+{
+    if space.contains(word) {
+        return Refusal::NONE;
+    }
+    Refusal {
+        number: 12,
+        operand,
+        place,
+    }
+}
+
+// The bra is checked before the ket.
+pub fn words_refusal(space: ModeSpace, bra: u64, ket: u64) -> Refusal
+    ensures { λ r. ⌜ r ≡ wordsRefusal (space .count) bra ket ⌝ }
+{
+    let r = word_refusal(space, 3, 0, bra);
+    if r.number != 0 {
+        return r;
+    }
+    word_refusal(space, 4, 0, ket)
 }
 
 // What one term adds at (bra, ket).
@@ -67,19 +93,9 @@ pub fn element(a: &[u8], bra: u64, ket: u64) -> Exact
         return Exact::refused(refusal);
     }
     let space = ModeSpace { count: c.modes };
-    if !space.contains(bra) {
-        return Exact::refused(Refusal {
-            number: 12,
-            operand: 3,
-            place: 0,
-        });
-    }
-    if !space.contains(ket) {
-        return Exact::refused(Refusal {
-            number: 12,
-            operand: 4,
-            place: 0,
-        });
+    let words = words_refusal(space, bra, ket);
+    if words.number != 0 {
+        return Exact::refused(words);
     }
     let n = c.terms;
     let value = sum_parts(a, n, bra, ket);
@@ -114,16 +130,13 @@ impl Projected {
 
 // Number 12 of the first basis word that holds a mode outside.
 fn outside_refusal(space: ModeSpace, basis: &[u64]) -> Refusal
-    ensures { λ r. ⌜ r ≡ firstRefusal (outsideAt (space .count) (now (basis .entry))) 0 (length (now (basis .entry))) ⌝ }
+    ensures { λ r. ⌜ r ≡ firstRefusal (outsideAt (space .count) (now (basis .entry))) (length (now (basis .entry))) ⌝ }
 {
     let mut i = 0;
     while i < basis.len() {
-        if !space.contains(basis[i]) {
-            return Refusal {
-                number: 12,
-                operand: 3,
-                place: i as u64,
-            };
+        let r = word_refusal(space, 3, i as u64, basis[i]);
+        if r.number != 0 {
+            return r;
         }
         i += 1;
     }
@@ -148,7 +161,7 @@ fn stands_earlier(basis: &[u64], i: usize) -> bool
 
 // Number 14 of the first basis word that stands earlier too.
 fn repeat_refusal(basis: &[u64]) -> Refusal
-    ensures { λ r. ⌜ r ≡ firstRefusal (repeatAt (now (basis .entry))) 0 (length (now (basis .entry))) ⌝ }
+    ensures { λ r. ⌜ r ≡ firstRefusal (repeatAt (now (basis .entry))) (length (now (basis .entry))) ⌝ }
 {
     let mut i = 0;
     while i < basis.len() {

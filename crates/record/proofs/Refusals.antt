@@ -1,8 +1,7 @@
 -- The first refusal of several, and the refusal of one term, case by case.
 use mathlib.Core.Path.{_≡_}
-use mathlib.Core.Bool.{Bool, true, false, and-false}
-use Prim.Native.Nat.{ℕ, _^_}
-use lib.Dec.{ltb}
+use mathlib.Core.Bool.{Bool, true, false}
+use Prim.Native.Nat.{ℕ}
 use lib.IntN.{natAbs}
 use borrow.Author.Tests.{eq-eqb, ne-eqb}
 use Rattle.modes.specs.declared.Term.{Term}
@@ -19,23 +18,19 @@ unfolding orElse
 or-second r s h = rw (eq-eqb (r .number) 0 h)
 
 module _ (o m i : ℕ) (up : Bool) (t : Term) where
-  pub ann-outside : ltb (t .ann) (2 ^ m) ≡ false → refusal 2 o i ≡ termRefusal o m i up t
-  unfolding termRefusal inside
-  ann-outside a = rw a
+  pub outside : inside m (t .cre) (t .ann) ≡ false → refusal 2 o i ≡ termRefusal o m i up t
+  unfolding termRefusal
+  outside e = rw e
 
-  pub cre-outside : ltb (t .cre) (2 ^ m) ≡ false → refusal 2 o i ≡ termRefusal o m i up t
-  unfolding termRefusal inside
-  cre-outside c = rw (c, and-false (ltb (t .ann) (2 ^ m)))
-
-  module _ (a : ltb (t .ann) (2 ^ m) ≡ true) (c : ltb (t .cre) (2 ^ m) ≡ true) where
+  module _ (e : inside m (t .cre) (t .ann) ≡ true) where
     pub not-above : up ≡ false → refusal 3 o i ≡ termRefusal o m i up t
-    unfolding termRefusal inside
-    not-above u = rw (a, c, u)
+    unfolding termRefusal
+    not-above u = rw (e, u)
 
     pub zero-coefficient : up ≡ true → natAbs (t .coeff) ≡ 0 → refusal 4 o i ≡ termRefusal o m i up t
-    unfolding termRefusal inside
-    zero-coefficient u z = rw (a, c, u, eq-eqb _ _ z)
+    unfolding termRefusal
+    zero-coefficient u z = rw (e, u, eq-eqb _ _ z)
 
     pub right-term : up ≡ true → (natAbs (t .coeff) ≡ 0 → ⊥) → none ≡ termRefusal o m i up t
-    unfolding termRefusal inside
-    right-term u z = rw (a, c, u, ne-eqb _ _ z)
+    unfolding termRefusal
+    right-term u z = rw (e, u, ne-eqb _ _ z)

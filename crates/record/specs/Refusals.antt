@@ -16,13 +16,13 @@ unfoldable pub orElse : Refusal → Refusal → Refusal
 orElse r s = cond (eqb (r .number) 0) s r
 
 -- both words hold only modes below m
-unfoldable pub inside : ℕ → Term → Bool
-inside m t = ltb (t .ann) (2 ^ m) && ltb (t .cre) (2 ^ m)
+unfoldable pub inside : ℕ → ℕ → ℕ → Bool
+inside m cre ann = ltb ann (2 ^ m) && ltb cre (2 ^ m)
 
 -- 2, 3 and 4 of the i-th term; up says that it is the first or above the one before it
 unfoldable pub termRefusal : ℕ → ℕ → ℕ → Bool → Term → Refusal
 termRefusal o m i up t =
-    cond (inside m t) (cond up (cond (eqb (natAbs (t .coeff)) 0) (refusal 4 o i) none) (refusal 3 o i)) (refusal 2 o i)
+    cond (inside m (t .cre) (t .ann)) (cond up (cond (eqb (natAbs (t .coeff)) 0) (refusal 4 o i) none) (refusal 3 o i)) (refusal 2 o i)
 
 -- the first refusal of the terms from the i-th on; up tells which terms may stand there
 unfoldable pub termsRefusal : ℕ → ℕ → ℕ → (Term → Bool) → List Term → Refusal

@@ -16,7 +16,7 @@ ghost use Rattle.modes.specs.Answers.{refusal, none};
 ghost use Rattle.record.specs.Numbers.{numbers, sameNumbers};
 ghost use Rattle.record.specs.Terms.{before, Ascending};
 ghost use Rattle.record.specs.Layout.{fields, header, modesOf, countOf, termsIn, termsOf, laidOut, putTerm};
-ghost use Rattle.record.specs.Refusals.{termRefusal, refusalOf, refusedRecord, checkedOf};
+ghost use Rattle.record.specs.Refusals.{inside, termRefusal, refusalOf, refusedRecord, checkedOf};
 ghost use Rattle.record.specs.Reading.{At};
 ghost use Rattle.record.specs.Weights.{heavierBy};
 ghost use Rattle.record.specs.Blocks.{countIf, earlier, annBelow, blockOf, bytesIn};
@@ -157,18 +157,21 @@ pub fn size(t: Term) -> u64
     lent::magnitude(t.coeff)
 }
 
+// Do both words hold only modes of the space?
+pub fn is_inside(space: ModeSpace, cre: u64, ann: u64) -> bool
+    ensures { λ r. ⌜ r ≡ inside (space .count) cre ann ⌝ }
+{
+    if !space.contains(ann) {
+        return false;
+    }
+    space.contains(cre)
+}
+
 // Numbers 2, 3 and 4 of the term t at `place`; `up` says that it is the first or above the one before it.
 fn term_refusal(space: ModeSpace, operand: u64, place: u64, up: bool, t: Term) -> Refusal
     ensures { λ r. ⌜ r ≡ termRefusal operand (space .count) place up t ⌝ }
 {
-    if !space.contains(t.ann) {
-        return Refusal {
-            number: 2,
-            operand,
-            place,
-        };
-    }
-    if !space.contains(t.cre) {
+    if !is_inside(space, t.cre, t.ann) {
         return Refusal {
             number: 2,
             operand,

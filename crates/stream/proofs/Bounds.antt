@@ -68,7 +68,7 @@ module _ {room : ℕ} where
   module _ (o : ℕ) (ho : o ≤ 2) where
     lawful-term : (m i : ℕ) (up : Bool) (t : Term) → i ≤ 2048 → Lawful room (termRefusal o m i up t)
     unfolding termRefusal
-    lawful-term m i up t hi = go (inside m t) up (eqb (natAbs (t .coeff)) 0)
+    lawful-term m i up t hi = go (inside m (t .cre) (t .ann)) up (eqb (natAbs (t .coeff)) 0)
       where
         go : (x y z : Bool) → Lawful room (cond x (cond y (cond z (refusal 4 o i) none) (refusal 3 o i)) (refusal 2 o i))
         go true true true = plain 4 o i (omega arith) ho hi

@@ -1,19 +1,20 @@
 -- `float_elem::check_terms` meets its contract: no term so far is refused.
-use mathlib.Core.Path.{_≡_, sym, ap, _∙_}
+use mathlib.Core.Path.{_≡_}
 use mathlib.Core.List.{[], _∷_}
 use Prim.Native.Nat.{_-_, _≤_}
 use native.Mathlib.Omega.{arith}
 use borrow.Author.Needs.{needs}
 use lib.ListN.{length}
 use Rattle.modes.specs.Answers.{none}
-use Rattle.float_elem.specs.Elements.{firstOf, termAt}
-use Rattle.float_elem.proofs.Firsts.{first-starts}
-use Rattle.float_elem.proofs.Checking.{terms-go, terms-stop}
+use Rattle.mat_elem.specs.Refusals.{firstRefusal}
+use Rattle.mat_elem.proofs.FirstRefusals.{first-starts, first-goes, first-ends, first-stays}
+use Rattle.float_elem.specs.Elements.{termAt}
+use Rattle.float_elem.proofs.Checking.{no-number}
 use Rattle.float_elem.proofs.check_terms.Statement.{statement}
 use Rattle.float_elem.proofs.check_terms.Tie as tie
 
 abbrev Inv-loop : tie.InvT-loop
-Inv-loop m cre ann re im space i₀ i = (i ≤ length cre) × (firstOf (termAt m cre ann (re ∷ im ∷ [])) i ≡ none)
+Inv-loop m cre ann re im space i₀ i = (i ≤ length cre) × (firstRefusal (termAt m cre ann (re ∷ im ∷ [])) i ≡ none)
 
 abbrev μ-loop : tie.MeasureT-loop
 μ-loop m cre ann re im space i₀ i = length cre - i
@@ -52,9 +53,7 @@ returns : tie.Need-returns Inv-loop μ-loop
 returns c =
     let at-term = c .before .before in
     let at-test = at-term .before .before .before .before .before in
-    let at-loop = at-test .before in
-    let a = at-loop .before .before .before .before .before .args in
-    terms-stop (a .m) (a .cre .now) (a .ann .now) (a .re .now ∷ a .im .now ∷ []) (at-loop .loop .i) (at-loop .loop .inv .1) (at-term .term-refusal .result) (at-term .term-refusal .ensures) (c .if1 .taken) (at-test .loop-test .taken)
+    first-stays _ _ (at-test .before .loop .inv .1) _ (at-term .term-refusal .ensures) (c .if1 .taken) _ (at-test .loop-test .taken)
 
 add-i : tie.Need-add-i Inv-loop μ-loop
 add-i c = search needs
@@ -66,14 +65,10 @@ loop-again : tie.Need-loop-again Inv-loop μ-loop
 loop-again c =
     let at-term = c .before .before in
     let at-loop = at-term .before .before .before .before .before .before in
-    let a = at-loop .before .before .before .before .before .args in
-    (search needs, terms-go (a .m) (a .cre .now) (a .ann .now) (a .re .now ∷ a .im .now ∷ []) (at-loop .loop .i) (at-loop .loop .inv .1) (at-term .term-refusal .result) (at-term .term-refusal .ensures) (c .if1 .left))
+    (search needs, first-goes _ _ (at-loop .loop .inv .1) (no-number _ _ _ _ _ _ (at-term .term-refusal .ensures) (c .if1 .left)))
 
 returns-2 : tie.Need-returns-2 Inv-loop μ-loop
-returns-2 c =
-    let a = c .before .before .before .before .before .before .args in
-    let all : c .before .loop .i ≡ length (a .cre .now) = omega arith in
-    sym (ap (firstOf (termAt (a .m) (a .cre .now) (a .ann .now) (a .re .now ∷ a .im .now ∷ []))) (sym all) ∙ c .before .loop .inv .1)
+returns-2 c = first-ends _ _ (c .before .loop .inv .1) _ (omega arith)
 
 pub check-terms-spec : {M : Type 1} → statement M
 check-terms-spec =

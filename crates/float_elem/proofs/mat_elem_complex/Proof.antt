@@ -25,8 +25,8 @@ returns-2 c =
     let a = at-listed .before .before .before .before .before .args in
     term-refused (a .m) (a .cre .now) (a .ann .now) (a .re .now ∷ a .im .now ∷ []) (a .bra) (a .ket) _ (at-listed .is-listed .ensures) (not-false _ (at-terms .before .if1 .left)) _ (at-terms .check-terms .ensures) (c .if2 .taken)
 
-check-words-requires : tie.Need-check-words-requires
-check-words-requires c κs = search needs
+words-refusal-requires : tie.Need-words-refusal-requires
+words-refusal-requires c κs = search needs
 
 returns-3 : tie.Need-returns-3
 returns-3 c =
@@ -35,7 +35,7 @@ returns-3 c =
     let at-listed = at-terms .before .before in
     let a = at-listed .before .before .before .before .before .args in
     word-refused (a .m) (a .cre .now) (a .ann .now) (a .re .now ∷ a .im .now ∷ []) (a .bra) (a .ket) _ (at-listed .is-listed .ensures) (not-false _ (at-terms .before .if1 .left)) _ (at-terms .check-terms .ensures) (at-words .before .if2 .left)
-    _ (at-words .check-words .ensures) (c .if3 .taken)
+    _ (at-words .words-refusal .ensures) (c .if3 .taken)
 
 sum-terms-requires : tie.Need-sum-terms-requires
 sum-terms-requires c κs =
@@ -49,7 +49,7 @@ returns-4 c =
     let at-listed = at-terms .before .before in
     let a = at-listed .before .before .before .before .before .args in
     sums-decide (a .m) (a .cre .now) (a .ann .now) (a .re .now ∷ a .im .now ∷ []) (a .bra) (a .ket) _ (at-listed .is-listed .ensures) (not-false _ (at-terms .before .if1 .left)) _ (at-terms .check-terms .ensures) (at-words .before .if2 .left)
-    _ (at-words .check-words .ensures) (c .before .if3 .left) _ (c .sum-terms .ensures)
+    _ (at-words .words-refusal .ensures) (c .before .if3 .left) _ (c .sum-terms .ensures)
 
 pub mat-elem-complex-spec : {M : Type 1} → statement M
 mat-elem-complex-spec =
@@ -59,7 +59,7 @@ mat-elem-complex-spec =
     returns
     check-terms-requires
     returns-2
-    check-words-requires
+    words-refusal-requires
     returns-3
     sum-terms-requires
     returns-4)

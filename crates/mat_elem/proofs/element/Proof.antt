@@ -1,10 +1,9 @@
--- `mat_elem::element` meets its contract: refused with the record, the bra or the ket, or found.
-use mathlib.Core.Path.{_≡_, sym, _∙_}
+-- `mat_elem::element` meets its contract: refused with the record or the words, or found.
+use mathlib.Core.Path.{_∙_}
 use mir.Facts.{toZ-ofZ}
 use mir.Syntax.{w64}
 use mir.Val.{SFits}
-use borrow.Author.Tests.{not-true, not-false}
-use Rattle.mat_elem.proofs.Answering.{record-refused, bra-refused, ket-refused, element-found, terms-held}
+use Rattle.mat_elem.proofs.Answering.{record-refused, words-refused, element-found, terms-held}
 use borrow.Author.Needs.{needs}
 use Rattle.mat_elem.proofs.element.Statement.{statement}
 use Rattle.mat_elem.proofs.element.Tie as tie
@@ -16,40 +15,34 @@ refused-requires : tie.Need-refused-requires
 refused-requires c κs = search needs
 
 returns : tie.Need-returns
-returns c = let s = c .before .before .before .before .before .before in c .refused .ensures ∙ record-refused (s .args .a .now) (s .args .bra) (s .args .ket) (c .before .before .before .before .check .result) (c .before .before .before .before .check .ensures) (c .before .before .if1 .taken)
+returns c =
+    let at-check = c .before .before .before .before in
+    c .refused .ensures ∙ record-refused _ _ _ _ (at-check .check .ensures) (c .before .before .if1 .taken)
 
-contains-requires : tie.Need-contains-requires
-contains-requires c κs = search needs
+words-refusal-requires : tie.Need-words-refusal-requires
+words-refusal-requires c κs = search needs
 
 refused-requires-2 : tie.Need-refused-requires-2
 refused-requires-2 c κs = search needs
 
 returns-2 : tie.Need-returns-2
 returns-2 c =
-    let s = c .before .before .before .before .before .before .before in
-    c .refused2 .ensures ∙ bra-refused (s .args .a .now) (s .args .bra) (s .args .ket) (c .before .before .before .before .before .check .result) (c .before .before .before .before .before .check .ensures) (c .before .before .before .if1 .left) (sym (c .before .before .contains .ensures) ∙ not-true _ (c .before .if2 .taken))
+    let at-words = c .before .before .before in
+    let at-if1 = at-words .before in
+    c .refused2 .ensures ∙ words-refused _ _ _ _ (at-if1 .before .before .check .ensures) (at-if1 .if1 .left) _ (at-words .words-refusal .ensures) (c .before .if2 .taken)
 
-contains-requires-2 : tie.Need-contains-requires-2
-contains-requires-2 c κs = search needs
-
-refused-requires-3 : tie.Need-refused-requires-3
-refused-requires-3 c κs = search needs
+sum-parts-requires : tie.Need-sum-parts-requires
+sum-parts-requires c κs =
+    let at-if1 = c .before .before .before in
+    let a = at-if1 .before .before .before .before .args in
+    terms-held _ (a .bra) (a .ket) _ (at-if1 .before .before .check .ensures) (at-if1 .if1 .left)
 
 returns-3 : tie.Need-returns-3
 returns-3 c =
-    let s = c .before .before .before .before .before .before .before .before .before in
-    c .refused3 .ensures
-    ∙ ket-refused (s .args .a .now) (s .args .bra) (s .args .ket) (c .before .before .before .before .before .before .before .check .result) (c .before .before .before .before .before .before .before .check .ensures) (c .before .before .before .before .before .if1 .left) (sym (c .before .before .before .before .contains .ensures) ∙ not-false _ (c .before .before .before .if2 .left)) (sym (c .before .before .contains2 .ensures) ∙ not-true _ (c .before .if3 .taken))
-
-sum-parts-requires : tie.Need-sum-parts-requires
-sum-parts-requires c κs = let s = c .before .before .before .before .before .before .before .before in terms-held (s .args .a .now) (s .args .bra) (s .args .ket) (c .before .before .before .before .before .before .check .result) (c .before .before .before .before .before .before .check .ensures) (c .before .before .before .before .if1 .left)
-
-returns-4 : tie.Need-returns-4
-returns-4 c =
-    let s = c .before .before .before .before .before .before .before .before .before in
+    let at-words = c .before .before .before in
+    let at-if1 = at-words .before in
     let small : SFits w64 (c .sum-parts .result) = record { sfits = c .sum-parts .ok } in
-    element-found (s .args .a .now) (s .args .bra) (s .args .ket) (c .before .before .before .before .before .before .before .check .result) (c .before .before .before .before .before .before .before .check .ensures) (c .before .before .before .before .before .if1 .left) (sym (c .before .before .before .before .contains .ensures) ∙ not-false _ (c .before .before .before .if2 .left)) (sym (c .before .before .contains2 .ensures) ∙ not-false _ (c .before .if3 .left))
-    _ (toZ-ofZ small ∙ c .sum-parts .ensures)
+    element-found _ _ _ _ (at-if1 .before .before .check .ensures) (at-if1 .if1 .left) _ (at-words .words-refusal .ensures) (c .before .if2 .left) _ (toZ-ofZ small ∙ c .sum-parts .ensures)
 
 pub element-spec : {M : Type 1} → statement M
 element-spec =
@@ -58,11 +51,8 @@ element-spec =
     check-requires
     refused-requires
     returns
-    contains-requires
+    words-refusal-requires
     refused-requires-2
     returns-2
-    contains-requires-2
-    refused-requires-3
-    returns-3
     sum-parts-requires
-    returns-4)
+    returns-3)

@@ -1,38 +1,39 @@
--- `mat_elem::outside_refusal` meets its contract. The invariant: what is left has the first refusal.
-use mathlib.Core.Path.{sym, _∙_}
+-- `mat_elem::outside_refusal` meets its contract. The invariant: no word so far is refused.
+use mathlib.Core.Path.{_≡_}
 use native.Mathlib.Omega.{arith}
-use borrow.Author.Tests.{not-true, not-false}
 use Prim.Native.Nat.{_-_, _≤_}
-use lib.ListN.{length}
+use lib.ListN.{length, getD}
+use Rattle.modes.specs.Answers.{none}
+use Rattle.mat_elem.specs.Refusals.{firstRefusal}
 use Rattle.mat_elem.specs.Matrix.{outsideAt}
-use Rattle.mat_elem.proofs.Bases.{Passed, none-passed, passes, stops, all-passed}
+use Rattle.mat_elem.proofs.Words.{word-none}
+use Rattle.mat_elem.proofs.FirstRefusals.{first-starts, first-goes, first-ends, first-stays}
 use borrow.Author.Needs.{needs}
 use Rattle.mat_elem.proofs.outside_refusal.Statement.{statement}
 use Rattle.mat_elem.proofs.outside_refusal.Tie as tie
 
 abbrev Inv-loop : tie.InvT-loop
-Inv-loop space basis i₀ i = (i ≤ length basis) × Passed (outsideAt (space .count) basis) (length basis) i
+Inv-loop space basis i₀ i = (i ≤ length basis) × (firstRefusal (outsideAt (space .count) basis) i ≡ none)
 
 abbrev μ-loop : tie.MeasureT-loop
 μ-loop space basis i₀ i = length basis - i
 
 loop-holds : tie.Need-loop-holds Inv-loop μ-loop
-loop-holds c = (search needs, none-passed _ _)
+loop-holds c = (search needs, first-starts _)
 
-mul-contains : tie.Need-mul-contains Inv-loop μ-loop
-mul-contains c = search needs
+mul-word-refusal : tie.Need-mul-word-refusal Inv-loop μ-loop
+mul-word-refusal c = search needs
 
-shared-slice-read-contains : tie.Need-shared-slice-read-contains Inv-loop μ-loop
-shared-slice-read-contains c = search needs
+shared-slice-read-word-refusal : tie.Need-shared-slice-read-word-refusal Inv-loop μ-loop
+shared-slice-read-word-refusal c = search needs
 
-contains-requires : tie.Need-contains-requires Inv-loop μ-loop
-contains-requires c κs = search needs
+word-refusal-requires : tie.Need-word-refusal-requires Inv-loop μ-loop
+word-refusal-requires c κs = search needs
 
 returns : tie.Need-returns Inv-loop μ-loop
 returns c =
-    let at-loop = c .before .before .before .before in
-    let out = sym (c .before .contains .ensures) ∙ not-true _ (c .if1 .taken) in
-    stops _ _ (at-loop .loop .i) (at-loop .loop .inv .1) (c .before .before .before .loop-test .taken) _ (rw out) (λ q. omega arith)
+    let at-test = c .before .before .before .before in
+    first-stays _ _ (at-test .before .loop .inv .1) _ (c .before .before .word-refusal .ensures) (c .if1 .taken) _ (at-test .loop-test .taken)
 
 add-i : tie.Need-add-i Inv-loop μ-loop
 add-i c = search needs
@@ -42,12 +43,14 @@ loop-less c = search needs
 
 loop-again : tie.Need-loop-again Inv-loop μ-loop
 loop-again c =
-    let at-loop = c .before .before .before .before in
-    let inside = sym (c .before .contains .ensures) ∙ not-false _ (c .if1 .left) in
-    (search needs, passes _ _ (at-loop .loop .i) (at-loop .loop .inv .1) (c .before .before .before .loop-test .taken) (rw inside))
+    let at-word = c .before .before in
+    let at-loop = at-word .before .before .before in
+    let a = at-loop .before .before .args in
+    let i = at-loop .loop .i in
+    (search needs, first-goes _ i (at-loop .loop .inv .1) (word-none (a .space .count) 3 i (getD (a .basis .now) i 0) _ (at-word .word-refusal .ensures) (c .if1 .left)))
 
 returns-2 : tie.Need-returns-2 Inv-loop μ-loop
-returns-2 c = all-passed _ _ (c .before .loop .i) (c .before .loop .inv .1) (c .loop-test .left)
+returns-2 c = first-ends _ _ (c .before .loop .inv .1) _ (omega arith)
 
 pub outside-refusal-spec : {M : Type 1} → statement M
 outside-refusal-spec =
@@ -56,9 +59,9 @@ outside-refusal-spec =
     Inv-loop
     μ-loop
     loop-holds
-    mul-contains
-    shared-slice-read-contains
-    contains-requires
+    mul-word-refusal
+    shared-slice-read-word-refusal
+    word-refusal-requires
     returns
     add-i
     loop-less

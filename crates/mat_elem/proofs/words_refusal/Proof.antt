@@ -1,9 +1,9 @@
--- `float_elem::check_words` meets its contract: the bra before the ket.
+-- `mat_elem::words_refusal` meets its contract: the bra before the ket.
 use mathlib.Core.Path.{_∙_}
 use borrow.Author.Needs.{needs}
-use Rattle.float_elem.proofs.Checking.{the-first, the-second}
-use Rattle.float_elem.proofs.check_words.Statement.{statement}
-use Rattle.float_elem.proofs.check_words.Tie as tie
+use Rattle.mat_elem.proofs.Words.{the-first, the-second}
+use Rattle.mat_elem.proofs.words_refusal.Statement.{statement}
+use Rattle.mat_elem.proofs.words_refusal.Tie as tie
 
 word-refusal-requires : tie.Need-word-refusal-requires
 word-refusal-requires c κs = search needs
@@ -17,6 +17,6 @@ word-refusal-requires-2 c κs = search needs
 returns-2 : tie.Need-returns-2
 returns-2 c = let at-if1 = c .before in c .word-refusal2 .ensures ∙ the-second _ _ _ (at-if1 .before .before .word-refusal .ensures) (at-if1 .if1 .left)
 
-pub check-words-spec : {M : Type 1} → statement M
-check-words-spec =
+pub words-refusal-spec : {M : Type 1} → statement M
+words-refusal-spec =
     tie.close (tie.spec word-refusal-requires returns word-refusal-requires-2 returns-2)

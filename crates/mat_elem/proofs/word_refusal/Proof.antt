@@ -1,8 +1,8 @@
--- `float_elem::word_refusal` meets its contract.
+-- `mat_elem::word_refusal` meets its contract.
 use mathlib.Core.Path.{sym, _∙_}
 use borrow.Author.Needs.{needs}
-use Rattle.float_elem.proofs.word_refusal.Statement.{statement}
-use Rattle.float_elem.proofs.word_refusal.Tie as tie
+use Rattle.mat_elem.proofs.word_refusal.Statement.{statement}
+use Rattle.mat_elem.proofs.word_refusal.Tie as tie
 
 contains-requires : tie.Need-contains-requires
 contains-requires c κs = search needs
