@@ -1,11 +1,11 @@
 -- The elements of the adjoint are those of the operator with bra and ket exchanged.
 use mathlib.Core.Path.{_≡_, refl, sym, ap, ap₂, _∙_}
 use mathlib.Core.Bool.{Bool, true, false, cond}
-use mathlib.Core.List.{List, [], _∷_}
+use mathlib.Core.List.{List}
 use Prim.Native.Nat.{ℕ, _+_}
 use native.Mathlib.Omega.{arith}
 use lib.Dec.{eqb}
-use lib.IntN.{ℤ, pos, negℤ-negℤ, _+ℤ_}
+use lib.IntN.{ℤ, pos, negℤ-negℤ}
 use borrow.Author.Tests.{eq-eqb, eqb-true, eqb-false}
 use Rattle.modes.specs.Bools.{_⊕_}
 use Rattle.modes.specs.Words.{bit}
@@ -19,7 +19,6 @@ use Rattle.products.specs.Operators.{signed, adds, part, element}
 use Rattle.products.specs.Apply.{resultOf}
 use Rattle.products.specs.declared.ApplyResult.the-variants.{Applied}
 use Rattle.products.proofs.Applying.{swapped-restores}
-use Rattle.modes.specs.Sums.{sumOf}
 use Rattle.adjoint.specs.Adjoint.{oddPairs, adjointTerm, adjointTerms}
 use Rattle.adjoint.proofs.Terms.{sum-adjoint, sum-same, each-term}
 

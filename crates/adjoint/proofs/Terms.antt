@@ -14,7 +14,7 @@ use Rattle.products.specs.Operators.{signed}
 use Rattle.modes.specs.Sums.{sumOf}
 use Rattle.modes.proofs.Sums.{sum-map}
 use Rattle.record.specs.Terms.{before, Ascending, empty, above, weight}
-use Rattle.record.specs.Coefficients.{coeffIn, coeffOf}
+use Rattle.record.specs.Coefficients.{coeffIn}
 use Rattle.record.specs.Canonical.{Inside, Nonzero, Canonical}
 use Rattle.record.specs.Figures.{creations, annihilations}
 use Rattle.record.proofs.Accepted.{abs-zero}

@@ -1,5 +1,5 @@
 -- The two ways through the call: refused, or the pair that the terms of the difference name.
-use mathlib.Core.Path.{_≡_, sym, ap, _∙_}
+use mathlib.Core.Path.{_≡_}
 use mathlib.Core.Bool.{true}
 use mathlib.Core.List.{List}
 use Prim.Native.Nat.{ℕ}
@@ -11,7 +11,7 @@ use Rattle.lincomb.specs.Results.{openedOf}
 use Rattle.lincomb.specs.Merging.{Sound, onward}
 use Rattle.lincomb.specs.declared.Opened.{Opened}
 use Rattle.lincomb.proofs.Results.{Opens, opens, shuts, sound}
-use Rattle.compare.specs.Comparison.{differing, named, refusedComparison, comparedOf}
+use Rattle.compare.specs.Comparison.{named, refusedComparison, comparedOf}
 use Rattle.compare.proofs.Naming.{named-same}
 use Rattle.compare.proofs.Differing.{Differ, lists-differing, lists-difference}
 

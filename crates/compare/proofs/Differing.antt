@@ -6,7 +6,7 @@ use mathlib.Core.Logic.{_⊎_, inl, inr}
 use Prim.Native.Nat.{ℕ}
 use native.Mathlib.Omega.{arith}
 use lib.Dec.{eqb}
-use lib.IntN.{ℤ, pos, natAbs, negℤ, _+ℤ_, _-ℤ_, +ℤ-idl, +ℤ-invr, -ℤ-+ℤ-cancel}
+use lib.IntN.{ℤ, pos, natAbs, _+ℤ_, _-ℤ_, +ℤ-idl, +ℤ-invr, -ℤ-+ℤ-cancel}
 use borrow.Author.Tests.{eq-eqb, ne-eqb, eqb-true, eqb-false}
 use Rattle.modes.specs.Sums.{sumOf}
 use Rattle.modes.specs.declared.Term.{Term}
@@ -14,7 +14,6 @@ use Rattle.modes.proofs.Bools.{and-l, and-r}
 use Rattle.lent.specs.Every.{Every, none, more}
 use Rattle.record.specs.Terms.{before, Above, Ascending, empty, above}
 use Rattle.record.specs.Coefficients.{coeffIn, coeffOf}
-use Rattle.record.specs.Canonical.{Nonzero}
 use Rattle.record.proofs.Order.{Order, lower, level, order}
 use Rattle.record.proofs.Accepted.{abs-zero}
 use Rattle.record.proofs.Coefficients.{own-coeff}

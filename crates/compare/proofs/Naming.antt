@@ -11,8 +11,7 @@ use Rattle.modes.specs.Answers.{none as unrefused}
 use Rattle.modes.specs.declared.Term.{Term}
 use Rattle.lent.specs.Every.{Every, none, more}
 use Rattle.compare.specs.Comparison.{ahead, foremost, named}
-use Rattle.compare.specs.declared.Compared.{Compared}
-use Rattle.compare.proofs.Ahead.{Ahead, fewer, is-ahead, not-itself, ahead-words, Placed, first, alike, second, placed, behind, not-ahead}
+use Rattle.compare.proofs.Ahead.{fewer, is-ahead, not-itself, ahead-words, Placed, first, alike, second, placed, behind, not-ahead}
 
 -- what holds of some term of a list
 abbrev pub Some : (Term → Type 0) → List Term → Type 0

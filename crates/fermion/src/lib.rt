@@ -17,7 +17,7 @@ ghost use Rattle.compare.specs.Comparison.{comparedOf};
 ghost use Rattle.record.specs.Refusals.{checkedOf};
 ghost use Rattle.record.specs.Blocks.{blockOf};
 ghost use Rattle.record.specs.Figures.{conservesOf, maxNBodyOf, activeModesOf};
-ghost use Rattle.fermion.specs.Face.{values, applyAnswer, writtenAnswer, answered, checkedAnswer, testedAnswer, measuredAnswer, stretchAnswer, elementAnswer, Fills, FillsClean};
+ghost use Rattle.fermion.specs.Face.{applyAnswer, writtenAnswer, answered, checkedAnswer, testedAnswer, measuredAnswer, stretchAnswer, elementAnswer, Fills, FillsClean};
 ghost use Rattle.fermion.specs.Face.{floatValues, floatAnswer, FillsFloat, comparedAnswer, inRows, FillsMatrix};
 use compare::Compared;
 use float_elem::FloatElement;

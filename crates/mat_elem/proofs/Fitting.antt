@@ -1,5 +1,5 @@
 -- A projected matrix is eight rows of eight signed numbers of 64 bits, whatever the record and the basis.
-use mathlib.Core.Path.{_≡_, refl, sym, ap, _∙_, subst}
+use mathlib.Core.Path.{_≡_, refl, _∙_}
 use mathlib.Core.Bool.{Bool, true, false, cond}
 use mathlib.Core.List.{List, [], _∷_, _++_, map}
 use Prim.Native.Nat.{ℕ, zero, suc, _+_, _-_, _^_, _≤_, _<_, zero-le}
@@ -23,8 +23,6 @@ use Rattle.record.specs.Layout.{modesOf, termsOf}
 use Rattle.record.specs.Refusals.{refusalOf}
 use Rattle.record.proofs.Accepted.{neither, accepted-canonical}
 use Rattle.mat_elem.specs.Matrix.{EightNumbers, EightRows, upToEight, rowOf, zeroRow, matrixOf, basisRefusal, refusedMatrix, projectedRefusal, projectedOf}
-use Rattle.mat_elem.specs.declared.Row.{Row}
-use Rattle.mat_elem.specs.declared.Projected.{Projected}
 use Rattle.mat_elem.proofs.Projecting.{basis-short}
 
 -- ---- an element is within the weight

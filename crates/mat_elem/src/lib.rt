@@ -30,7 +30,7 @@ impl Exact {
 }
 
 // Number 12 of a word that the caller names, where it holds a mode outside.
-pub fn word_refusal(space: ModeSpace, operand: u64, place: u64, word: u64) -> Refusal
+fn word_refusal(space: ModeSpace, operand: u64, place: u64, word: u64) -> Refusal
     ensures { λ r. ⌜ r ≡ wordRefusal (space .count) operand place word ⌝ }
 {
     if space.contains(word) {

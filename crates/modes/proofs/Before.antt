@@ -1,17 +1,17 @@
 -- Shifts and exclusive ors that double a window: the parity of the modes below each mode, for all modes of a word at once.
 use mathlib.Core.Path.{_≡_, refl, sym, ap, ap₂, _∙_}
-use mathlib.Core.Bool.{Bool, true, false, not, cond, _&&_}
+use mathlib.Core.Bool.{Bool, true, false, not, _&&_}
 use mathlib.Core.Logic.{_⊎_, inl, inr}
-use Prim.Native.Nat.{ℕ, zero, suc, _+_, _-_, _*_, _/_, _%_, _^_, _≤_, _<_, zero-le}
+use Prim.Native.Nat.{ℕ, zero, suc, _+_, _-_, _*_, _%_, _^_, _≤_, _<_}
 use native.Mathlib.Nat.{pow-suc, mul-one, mul-assoc, zero-lt-suc, mul-div-cancel}
 use native.Mathlib.Omega.{arith}
-use lib.Bits.{bitAnd, bitXor, and-mask}
-use lib.Dec.{eqb, lit<}
+use lib.Bits.{bitXor, and-mask}
+use lib.Dec.{eqb}
 use lib.Pow.{pow-pos}
 use Rattle.modes.specs.Bools.{_⊕_}
 use Rattle.modes.specs.Words.{Modes, bit}
 use Rattle.modes.specs.Counts.{odd, oddExchanges}
-use Rattle.modes.proofs.Bools.{⊕-false, false-⊕, parity-sum}
+use Rattle.modes.proofs.Bools.{⊕-false, parity-sum}
 use Rattle.modes.proofs.Digits.{lt-or-ge, bit-xor, bit-and, bit-not, bit-half, bit-zero, bit-none}
 
 -- ---- a shift

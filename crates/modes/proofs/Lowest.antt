@@ -2,13 +2,13 @@
 use mathlib.Core.Path.{_≡_, refl, sym, ap, ap₂, _∙_}
 use mathlib.Core.Bool.{Bool, true, false, cond, _&&_, and-true}
 use mathlib.Core.Logic.{_⊎_, inl, inr}
-use Prim.Native.Nat.{ℕ, zero, suc, _+_, _-_, _*_, _/_, _%_, _^_, _≤_, _<_, zero-le, min}
+use Prim.Native.Nat.{ℕ, zero, suc, _+_, _-_, _*_, _/_, _%_, _^_, _≤_, _<_, min}
 use native.Mathlib.Nat.{le-refl, mod-lt, not-suc-le-zero, zero-lt-suc, add-comm, add-zero, lt-irrefl, le-of-suc-le-suc, div-add-mod', pow-suc}
 use native.Mathlib.Omega.{arith}
 use lib.Dec.{eqb}
 use lib.Arith.{bin-ind}
 use lib.Pow.{pow-pos, pow-mono}
-use lib.Bits.{bitAnd, bitXor, and-step, and-self, and-block, xor-disjoint, and-mask}
+use lib.Bits.{bitAnd, and-step, and-self, and-block, xor-disjoint, and-mask}
 use lib.Count.{ones}
 use borrow.Author.Tests.{ne-eqb, eq-eqb}
 use Rattle.modes.specs.Bools.{_⊕_}

@@ -3,7 +3,7 @@ use mathlib.Core.Path.{_≡_, refl, sym, ap, ap₂, _∙_}
 use mathlib.Core.Bool.{Bool, true, false, not, cond, _&&_}
 use mathlib.Core.Logic.{_⊎_, inl, inr}
 use Prim.Native.Nat.{ℕ, zero, suc, _+_, _-_, _^_, _≤_, _<_}
-use native.Mathlib.Nat.{le-refl, lt-of-le-of-lt, not-suc-le-zero, zero-add, pow-suc}
+use native.Mathlib.Nat.{lt-of-le-of-lt, not-suc-le-zero, zero-add, pow-suc}
 use native.Mathlib.Omega.{arith}
 use lib.Bits.{bitAnd, and-mask, and-le-l}
 use lib.Count.{ones}

@@ -1,7 +1,7 @@
 -- Sums over lists: over two in turn, and over what a function makes of each.
 use mathlib.Core.Path.{_≡_, refl, sym, ap, _∙_}
 use mathlib.Core.List.{List, [], _∷_, _++_, map}
-use lib.IntN.{ℤ, pos, _+ℤ_, +ℤ-assoc, +ℤ-idl, +ℤ-idr}
+use lib.IntN.{ℤ, _+ℤ_, +ℤ-assoc, +ℤ-idl, +ℤ-idr}
 use Rattle.modes.specs.Sums.{sumOf}
 
 pub sum-cons : {A : Type 0} (w : A → ℤ) (x : A) (l : List A) → sumOf w (x ∷ l) ≡ w x +ℤ sumOf w l

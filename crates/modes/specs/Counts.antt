@@ -1,5 +1,5 @@
 -- Counts of modes, at any width k, and their parities.
-use mathlib.Core.Bool.{Bool, true, false, cond, _&&_}
+use mathlib.Core.Bool.{Bool, false, cond, _&&_}
 use Prim.Native.Nat.{ℕ, zero, suc, _+_, _-_, _*_, _/_, _%_}
 use lib.Dec.{eqb}
 use Rattle.modes.specs.Bools.{_⊕_}

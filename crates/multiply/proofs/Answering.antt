@@ -11,17 +11,15 @@ use borrow.Author.Tests.{le-leb, lt-leb, leb-true}
 use Rattle.modes.specs.declared.Term.{Term}
 use Rattle.modes.specs.declared.Refusal.{Refusal}
 use Rattle.modes.specs.Answers.{refusal, none}
-use Rattle.lent.specs.Outputs.{Output, refusedOutput}
+use Rattle.lent.specs.Outputs.{refusedOutput}
 use Rattle.lent.specs.Rows.{rowsAt}
 use Rattle.record.specs.Terms.{weight}
-use Rattle.record.specs.Layout.{modesOf, countOf, termsOf, termsIn}
+use Rattle.record.specs.Layout.{modesOf, termsOf, termsIn}
 use Rattle.record.specs.Coefficients.{coeffOf}
 use Rattle.record.specs.Refusals.{orElse}
 use Rattle.record.proofs.Refusals.{or-first, or-second}
-use Rattle.record.proofs.Accepted.{accepted-laid}
 use Rattle.lincomb.specs.Normal.{normal}
 use Rattle.lincomb.specs.Results.{pairRefusal, resultOf, openedOf}
-use Rattle.lincomb.specs.Merging.{Sound}
 use Rattle.lincomb.specs.declared.Opened.{Opened}
 use Rattle.lincomb.proofs.Normal.{normal-is}
 use Rattle.lincomb.proofs.Results.{Opens, opens, shuts, sound, refused-earlier}

@@ -1,9 +1,9 @@
 -- The elements of the rows of all pairs: those that the second operator and then the first give, ladder by ladder, and those of the other order with its sign.
 use mathlib.Core.Path.{_≡_, refl, sym, ap, ap₂, _∙_}
 use mathlib.Core.Bool.{Bool, true, false, cond}
-use mathlib.Core.List.{List, [], _∷_, _++_}
-use Prim.Native.Nat.{ℕ, _^_, _<_}
-use lib.IntN.{ℤ, pos, _+ℤ_, _*ℤ_, *ℤ-comm, +ℤ-idl, +ℤ-idr, +ℤ-assoc, +ℤ-comm}
+use mathlib.Core.List.{List, [], _∷_}
+use Prim.Native.Nat.{ℕ}
+use lib.IntN.{ℤ, pos, _+ℤ_, _*ℤ_, *ℤ-comm, +ℤ-assoc, +ℤ-comm}
 use Rattle.modes.specs.Sums.{sumOf}
 use Rattle.modes.specs.declared.Term.{Term}
 use Rattle.modes.proofs.Sums.{sum-append}

@@ -1,11 +1,11 @@
 -- Numbers 8 and 7, before the result is looked at.
-use mathlib.Core.Path.{_≡_, refl, sym, ap, _∙_}
+use mathlib.Core.Path.{_≡_}
 use Prim.Native.Nat.{ℕ, _*_, _/_, _^_, _≤_, _<_}
 use native.Mathlib.Nat.{div-lt-iff-lt-mul, le-div-iff-mul-le, mul-comm, zero-mul}
 use native.Mathlib.Omega.{arith}
 use borrow.Author.Tests.{le-leb, lt-leb}
 use Rattle.modes.specs.Answers.{refusal, none}
-use Rattle.multiply.specs.Answers.{weightRefusal, workRefusal}
+use Rattle.multiply.specs.Answers.{weightRefusal}
 
 module _ (v w : ℕ) where
   pub too-heavy : (v ≡ 0 → ⊥) → 2 ^ 60 / v < w → refusal 8 0 0 ≡ weightRefusal v w

@@ -8,7 +8,6 @@ use lib.IntN.{ℤ, negℤ, _+ℤ_, _*ℤ_, +ℤ-idr}
 use lib.ListN.{take}
 use lib.Pow.{pow-mono}
 use Rattle.modes.specs.declared.Term.{Term}
-use Rattle.modes.specs.declared.Refusal.{Refusal}
 use Rattle.modes.specs.declared.Written.{Written}
 use Rattle.modes.specs.Answers.{none}
 use Rattle.lent.specs.Every.{Every, none as nothing, more}
@@ -21,7 +20,7 @@ use Rattle.record.specs.Layout.{modesOf, termsOf}
 use Rattle.record.specs.Refusals.{orElse, refusalOf}
 use Rattle.record.specs.Canonical.{Inside, Canonical}
 use Rattle.record.proofs.Accepted.{neither, accepted-canonical}
-use Rattle.lincomb.specs.Normal.{join, normal}
+use Rattle.lincomb.specs.Normal.{normal}
 use Rattle.lincomb.specs.Results.{pairRefusal}
 use Rattle.lincomb.proofs.Totals.{element-normal}
 use Rattle.lincomb.proofs.Normal.{every-append, every-normal, normal-ascending, normal-nonzero}

@@ -1,9 +1,9 @@
 -- The rows of all pairs: as many as the branches, and at any pair of words no heavier than the product of the two weights, twice where both orders count.
 use mathlib.Core.Path.{_≡_, refl, sym, ap, ap₂, _∙_}
 use mathlib.Core.Bool.{Bool, true, false, cond, _&&_}
-use mathlib.Core.List.{List, [], _∷_, _++_, map}
-use Prim.Native.Nat.{ℕ, _+_, _*_, _^_, _≤_, _<_}
-use native.Mathlib.Nat.{add-mul, mul-add, add-zero, add-le-add, le-trans, le-of-eq, zero-mul, mul-zero}
+use mathlib.Core.List.{List, [], _∷_, map}
+use Prim.Native.Nat.{ℕ, _+_, _*_, _^_, _≤_}
+use native.Mathlib.Nat.{add-mul, mul-add, le-of-eq}
 use native.Mathlib.Omega.{arith}
 use lib.Dec.{eqb}
 use lib.IntN.{ℤ, pos, natAbs, _*ℤ_}
@@ -11,7 +11,6 @@ use lib.ListN.{length, length-append}
 use borrow.Author.Tests.{eqb-true}
 use Rattle.modes.specs.Counts.{count}
 use Rattle.modes.specs.declared.Term.{Term}
-use Rattle.modes.proofs.Bools.{and-l, and-r}
 use Rattle.lent.specs.Every.{Every, none, more}
 use Rattle.lent.proofs.SignedNumbers.{abs-product}
 use Rattle.products.specs.Operators.{signed}
@@ -21,7 +20,6 @@ use Rattle.products.proofs.Multiplied.{rows-none, rows-number}
 use Rattle.products.proofs.ProductTheorems.{rows-differ}
 use Rattle.products.proofs.Walks.{abs-signed}
 use Rattle.record.specs.Terms.{weight}
-use Rattle.record.specs.Coefficients.{coeffIn}
 use Rattle.joins.specs.KeyWeights.{keyWeight, Light}
 use Rattle.joins.proofs.KeyWeights.{weight-append}
 use Rattle.pairs.specs.Products.{pairRows, rowsWith, allRows, branchesOf, pairBranches, branchesWith, allBranches}

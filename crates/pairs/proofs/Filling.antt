@@ -1,14 +1,14 @@
 -- The work as it fills: steps that follow each other, and where the rows are too many.
-use mathlib.Core.Path.{_≡_, refl, sym, ap, ap₂, _∙_, subst}
-use mathlib.Core.List.{List, [], _∷_, _++_, append-assoc, append-nil}
+use mathlib.Core.Path.{_≡_, refl, sym, ap, _∙_, subst}
+use mathlib.Core.List.{List, [], _∷_, _++_, append-assoc}
 use Prim.Native.Nat.{ℕ, zero, suc, _+_, _-_, _*_, _≤_, _<_}
-use native.Mathlib.Nat.{mul-suc, zero-add}
+use native.Mathlib.Nat.{zero-add}
 use native.Mathlib.Omega.{arith}
 use lib.ListN.{length, length-append}
 use Rattle.modes.specs.declared.Term.{Term}
 use Rattle.lent.specs.Rows.{rowAt, rowsAt}
 use Rattle.lent.proofs.RowLaws.{rows-more}
-use Rattle.pairs.specs.Filling.{Room, Stands, Filled, Grown, filled, over, Adds, Appended, Opposite, Settled, cancelled, kept}
+use Rattle.pairs.specs.Filling.{Room, Stands, Filled, Grown, filled, over, Adds, Appended, Settled, cancelled, kept}
 use Rattle.pairs.specs.Filling as filling
 use Rattle.pairs.specs.declared.Fill.{Fill}
 use Rattle.pairs.proofs.Standing.{stands-same, stands-trans, stands-append, stands-swap, stands-cancel}

@@ -1,21 +1,20 @@
 -- Theorems on applying a term: when it succeeds, the new word's count, and that the swapped term restores the ket.
 use mathlib.Core.Path.{_≡_, refl, sym, ap, ap₂, _∙_}
-use mathlib.Core.Bool.{Bool, true, false, not, cond, _&&_, _||_, true≢false}
+use mathlib.Core.Bool.{Bool, true, false, not, cond, _&&_, true≢false}
 use mathlib.Core.Logic.{_⊎_, inl, inr}
 use Prim.Native.Nat.{ℕ, _+_, _-_, _^_, _≤_, _<_}
 use native.Mathlib.Omega.{arith}
 use lib.Bits.{bitXor}
 use Rattle.modes.specs.Bools.{_⊕_}
-use Rattle.modes.specs.Words.{Modes, bit, _△_, each}
-use Rattle.modes.specs.Counts.{parity, count, exchanges, pairs, oddExchanges}
+use Rattle.modes.specs.Words.{Modes, bit, _△_}
+use Rattle.modes.specs.Counts.{parity, count, pairs, oddExchanges}
 use Rattle.modes.specs.declared.Sign.{Sign}
-use Rattle.modes.proofs.Bools.{false-⊕, ⊕-self-left, parity-sum}
+use Rattle.modes.proofs.Bools.{false-⊕, parity-sum}
 use Rattle.modes.proofs.Sets.{odd-exchanges-△-l, each-at, each-all}
 use Rattle.modes.proofs.Digits.{lt-or-ge, bit-xor, bits-xor, bit-above, ext}
 use Rattle.modes.proofs.Counts.{count-sum, count-mono, exchanges-odd, exchanges-self, parity-add}
-use Rattle.products.specs.PhaseRule.{Outcome, gone, went}
+use Rattle.products.specs.PhaseRule.{gone, went}
 use Rattle.products.specs.Apply.{resultOf, applied, Ready}
-use Rattle.products.specs.declared.ApplyResult.{ApplyResult}
 use Rattle.products.specs.declared.ApplyResult.the-variants.{Applied, Zero}
 use Rattle.products.specs.Product.{signOf}
 use Rattle.products.proofs.ClosedForm.{fit, acts, acts-is, term-is}

@@ -1,24 +1,23 @@
 -- What the code's words and counts for one product say, and the three ways in which `mul_cmpnts` answers.
 use mathlib.Core.Path.{_≡_, refl, sym, ap, ap₂, _∙_}
-use mathlib.Core.Bool.{Bool, true, false, not, cond, _&&_, and-false, true≢false}
-use mathlib.Core.List.{List, [], _∷_, _++_, map}
+use mathlib.Core.Bool.{Bool, true, false, not, _&&_, true≢false}
+use mathlib.Core.List.{List, [], _++_, map}
 use mathlib.Core.Logic.{_⊎_, inl, inr}
 use Prim.Native.Nat.{ℕ, _+_, _-_, _*_, _/_, _^_, _≤_, _<_}
 use native.Mathlib.Nat.{mul-div-cancel-left, zero-add}
 use native.Mathlib.Omega.{arith}
 use lib.Bits.{bitAnd, bitOr, bitXor, or-zero-r}
 use lib.Count.{ones}
-use lib.Dec.{ltb, lit<}
+use lib.Dec.{lit<}
 use lib.Pow.{pow-pos}
 use lib.IntN.{ℤ, pos}
 use lib.ListN.{length, take, drop}
 use lib.Seq.{take-at}
-use borrow.Author.Tests.{lt-ltb, le-ltb, leb-true, leb-false}
+use borrow.Author.Tests.{lt-ltb, le-ltb}
 use Rattle.modes.specs.Bools.{_⊕_}
-use Rattle.modes.specs.Words.{Modes, bit, _△_, each}
+use Rattle.modes.specs.Words.{Modes, bit, _△_}
 use Rattle.modes.specs.Counts.{count, odd, oddExchanges}
 use Rattle.modes.specs.Answers.{refusal, refused, none, wrote}
-use Rattle.modes.specs.declared.Written.{Written}
 use Rattle.modes.specs.declared.Term.{Term}
 use Rattle.modes.proofs.Bools.{false-⊕, ⊕-assoc}
 use Rattle.modes.proofs.Sets.{each-all, each-at, odd-none}
@@ -26,9 +25,9 @@ use Rattle.modes.proofs.Digits.{lt-or-ge, bit-and, bit-not, bit-above, bit-none
 use Rattle.modes.proofs.Counts.{ones-word}
 use Rattle.lent.specs.Bytes.{put, zeros}
 use Rattle.lent.specs.Rows.{rowBytes, rowsBytes}
-use Rattle.lent.specs.Outputs.{Output, refusedOutput, filledOutput, Gives}
+use Rattle.lent.specs.Outputs.{refusedOutput, Gives}
 use Rattle.lent.proofs.RowLaws.{length-rows}
-use Rattle.products.specs.Product.{fine, branch, choices, notEmpty, branching, creAt, annAt, minusAt, rowTimes, rowsTimes, noRoom, multiplied}
+use Rattle.products.specs.Product.{choices, notEmpty, branching, creAt, annAt, minusAt, rowTimes, rowsTimes, multiplied}
 use Rattle.products.specs.Walk.{walk}
 use Rattle.products.specs.Fitting.{Fitting, rowsOf}
 use Rattle.products.specs.declared.ProductHelper.{ProductHelper}

@@ -5,7 +5,6 @@ use native.Mathlib.Omega.{arith}
 use Rattle.modes.specs.declared.Sign.{Sign}
 use Rattle.products.specs.PhaseRule.{Outcome, gone, went}
 use Rattle.products.specs.Apply.{resultOf}
-use Rattle.products.specs.declared.ApplyResult.{ApplyResult}
 use Rattle.products.specs.declared.ApplyResult.the-variants.{Applied, Zero}
 
 pub outcome-gone : (o : Outcome) → Zero ≡ resultOf o → o ≡ gone

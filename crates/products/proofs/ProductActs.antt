@@ -1,27 +1,26 @@
 -- The rows of one product act, as a sum, as the right term and then the left.
 use mathlib.Core.Path.{_≡_, refl, sym, ap, ap₂, _∙_, fun-ext}
 use mathlib.Core.Bool.{Bool, true, false, not, cond, _&&_, _||_}
-use mathlib.Core.List.{List, [], _∷_, map}
+use mathlib.Core.List.{[], map}
 use mathlib.Core.Logic.{_⊎_, inl, inr}
-use Prim.Native.Nat.{ℕ, _^_, _≤_, _<_, zero-le}
+use Prim.Native.Nat.{ℕ, _^_, _≤_, _<_}
 use lib.Dec.{eqb, lit<}
 use lib.Bits.{bitAnd, bitOr, bitXor, or-lt, xor-lt, and-lt}
-use lib.IntN.{ℤ, pos, negℤ, _+ℤ_}
+use lib.IntN.{ℤ, pos}
 use Rattle.modes.specs.Bools.{_⊕_, same}
 use Rattle.modes.specs.Words.{Modes, bit, _△_, each}
 use Rattle.modes.specs.Counts.{odd, oddExchanges}
 use Rattle.modes.specs.Sums.{sumOf}
 use Rattle.modes.proofs.Sums.{sum-map}
-use Rattle.modes.specs.declared.Term.{Term}
 use Rattle.modes.proofs.Bools.{false-⊕, ⊕-assoc, ⊕-comm, of-same, at5, at6}
 use Rattle.modes.proofs.Sets.{odd-none, odd-exchanges-none, each-cong, each-and, each-all, each-at}
 use Rattle.modes.proofs.Digits.{lt-or-ge, bit-xor, bit-or, bit-and, bits-xor, bit-above, bit-none, ext}
-use Rattle.products.specs.PhaseRule.{Outcome, gone, went, term}
+use Rattle.products.specs.PhaseRule.{gone, went, term}
 use Rattle.products.specs.Operators.{signed, adds, part, element}
 use Rattle.products.specs.Product.{fine, branch, signOf, choices, notEmpty, branching, creAt, annAt, minusAt, rowTimes, rowsTimes}
 use Rattle.products.proofs.ClosedForm.{fit, acts, acts-is, term-is, term-gone}
 use Rattle.products.proofs.Signs.{signed-zero, signed-signed, joined, two-signs, row-sign}
-use Rattle.products.proofs.Sums.{sum-cong, Part, weigh, alternate, from, from-all}
+use Rattle.products.proofs.Sums.{sum-cong, Part, weigh, alternate, from-all}
 
 -- ---- mode by mode
 

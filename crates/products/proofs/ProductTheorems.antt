@@ -1,6 +1,6 @@
 -- Theorems on one product, stated of the bytes that `mul_cmpnts` leaves: its rows act as R and then L, there are 2^b of them, and no two have the same words.
 use mathlib.Core.Path.{_≡_, refl, sym, ap, ap₂, _∙_, subst}
-use mathlib.Core.Bool.{Bool, true, false, not, cond, _&&_, _||_, true≢false}
+use mathlib.Core.Bool.{Bool, true, false, not, cond, _&&_, _||_}
 use mathlib.Core.List.{List, [], _∷_, _++_, map}
 use Prim.Native.Nat.{ℕ, _-_, _*_, _^_, _<_}
 use native.Mathlib.Omega.{arith}
@@ -10,7 +10,7 @@ use lib.Dec.{ltb, lit<}
 use lib.IntN.{ℤ, pos, natAbs}
 use lib.ListN.{length}
 use Rattle.modes.specs.Bools.{_⊕_, same}
-use Rattle.modes.specs.Words.{Modes, bit}
+use Rattle.modes.specs.Words.{bit}
 use Rattle.modes.specs.Counts.{count}
 use Rattle.modes.specs.Answers.{refusal}
 use Rattle.modes.specs.declared.Written.{Written}
@@ -26,7 +26,7 @@ use Rattle.lent.proofs.SignedNumbers.{abs-fits}
 use Rattle.products.specs.PhaseRule.{went, term}
 use Rattle.products.specs.Operators.{signed, adds, element}
 use Rattle.products.specs.Lists.{Each, Pairwise}
-use Rattle.products.specs.Product.{branch, Other, choices, notEmpty, branching, creAt, annAt, minusAt, rowTimes, rowsTimes, noRoom, multiplied}
+use Rattle.products.specs.Product.{branch, Other, choices, notEmpty, branching, creAt, minusAt, rowTimes, rowsTimes, noRoom, multiplied}
 use Rattle.products.proofs.Sums.{Part}
 use Rattle.products.proofs.ProductActs.{imp, mp, creD, bit-cre, product-acts}
 use Rattle.products.proofs.Choices.{each-map, choices-parts, choices-differ}

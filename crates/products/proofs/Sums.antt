@@ -1,22 +1,22 @@
 -- Sums over the sets of branching modes: two that agree on the parts, and the alternating one.
 use mathlib.Core.Path.{_≡_, refl, sym, ap, ap₂, _∙_}
 use mathlib.Core.Bool.{Bool, true, false, not, cond, _&&_, _||_, and-true}
-use mathlib.Core.List.{List, [], _∷_, _++_}
+use mathlib.Core.List.{_++_}
 use mathlib.Core.Logic.{_⊎_, inl, inr}
 use Prim.Native.Nat.{ℕ, zero, suc, _+_, _^_, _≤_, _<_}
-use native.Mathlib.Nat.{add-zero, zero-add, le-refl, le-of-eq, not-suc-le-zero}
+use native.Mathlib.Nat.{add-zero, zero-add, le-of-eq, not-suc-le-zero}
 use native.Mathlib.Omega.{arith}
-use lib.Dec.{eqb, ltb}
+use lib.Dec.{eqb}
 use lib.Bits.{bitXor, xor-lt}
 use lib.Pow.{pow-lt}
-use lib.IntN.{ℤ, pos, negsuc, negℤ, _+ℤ_, +ℤ-idl, +ℤ-idr, +ℤ-assoc, +ℤ-invr, negℤ-negℤ}
+use lib.IntN.{ℤ, pos, negℤ, _+ℤ_, +ℤ-idr, +ℤ-invr, negℤ-negℤ}
 use borrow.Author.Tests.{ne-eqb, eq-eqb, eqb-true}
 use Rattle.modes.specs.Bools.{_⊕_, same}
 use Rattle.modes.specs.Words.{Modes, bit, each}
 use Rattle.modes.specs.Counts.{odd}
 use Rattle.modes.specs.Sums.{sumOf}
 use Rattle.modes.proofs.Sums.{sum-append}
-use Rattle.modes.proofs.Bools.{⊕-false, false-⊕, ⊕-assoc, ⊕-comm, of-same, at3, at4}
+use Rattle.modes.proofs.Bools.{⊕-false, false-⊕, of-same, at3}
 use Rattle.modes.proofs.Sets.{odd-△, odd-none, each-cong, each-and}
 use Rattle.modes.proofs.Digits.{lt-or-ge, bit-xor, bits-xor, bit-pow}
 use Rattle.products.specs.Operators.{signed}

@@ -1,15 +1,15 @@
 -- The walk from the lowest row, over all branching modes, gives the product's rows in their order.
 use mathlib.Core.Path.{_≡_, refl, sym, ap, ap₂, _∙_, fun-ext}
-use mathlib.Core.Bool.{Bool, true, false, not, cond, _&&_, _||_, true≢false, or-false}
+use mathlib.Core.Bool.{Bool, true, false, _&&_, _||_, true≢false, or-false}
 use mathlib.Core.List.{List, [], _∷_, _++_, map, map-append}
 use mathlib.Core.Logic.{_⊎_, inl, inr}
-use Prim.Native.Nat.{ℕ, zero, suc, _-_, _^_, _≤_, _<_, zero-le}
+use Prim.Native.Nat.{ℕ, zero, suc, _-_, _^_, _<_}
 use native.Mathlib.Nat.{lt-of-le-of-lt}
 use native.Mathlib.Omega.{arith}
-use lib.Dec.{eqb, lit<}
+use lib.Dec.{eqb}
 use lib.Bits.{bitAnd, bitOr, bitXor, and-le-l}
-use lib.IntN.{ℤ, pos}
-use borrow.Author.Tests.{ne-eqb, eq-eqb, eqb-true}
+use lib.IntN.{ℤ}
+use borrow.Author.Tests.{ne-eqb, eqb-true}
 use Rattle.modes.specs.Bools.{_⊕_}
 use Rattle.modes.specs.Words.{Modes, bit, _△_}
 use Rattle.modes.specs.Counts.{count, odd, oddExchanges}
@@ -20,7 +20,7 @@ use Rattle.modes.proofs.Digits.{bit-xor, bit-or, bit-pow, bits-xor, bit-none, e
 use Rattle.modes.proofs.Lowest.{Lowest, lowest, lowest-is, lowest-less, lowest-small}
 use Rattle.lent.proofs.RowLaws.{term-of}
 use Rattle.products.specs.Operators.{signed}
-use Rattle.products.specs.Product.{branch, choices, notEmpty, branching, creAt, annAt, minusAt, rowTimes, rowsTimes}
+use Rattle.products.specs.Product.{branch, choices, branching, creAt, annAt, minusAt, rowTimes}
 use Rattle.products.specs.Walk.{keeping, walk}
 use Rattle.products.proofs.Signs.{signed-signed, joined, more-sign}
 use Rattle.products.proofs.Sums.{odd-one}

@@ -3,7 +3,6 @@ use mathlib.Core.Path.{_≡_}
 use mathlib.Core.Bool.{true, false, not, _&&_}
 use Prim.Native.Nat.{ℕ}
 use Rattle.modes.specs.Words.{bit}
-use Rattle.modes.specs.declared.Sign.{Sign}
 use Rattle.products.specs.PhaseRule.{Outcome, gone, went, term}
 use Rattle.products.specs.declared.ApplyResult.{ApplyResult}
 use Rattle.products.specs.declared.ApplyResult.the-variants.{Applied, Zero}

@@ -1,6 +1,6 @@
 -- The walk over the branching modes that are left, lowest first: the rows that it writes from a row that keeps none of them.
 use mathlib.Core.Path.{_≡_}
-use mathlib.Core.Bool.{Bool, true}
+use mathlib.Core.Bool.{true}
 use mathlib.Core.List.{List, [], _∷_, _++_}
 use Prim.Native.Nat.{ℕ, zero, suc, _-_, _^_, _<_}
 use lib.Bits.{bitAnd, bitOr}

@@ -22,7 +22,7 @@ use Rattle.record.specs.Terms.{before, Above, Ascending, empty, above}
 use Rattle.record.specs.Layout.{column, countOf, together, termsIn, termsOf}
 use Rattle.record.specs.Refusals.{refusalOf}
 use Rattle.record.specs.Reading.{At}
-use Rattle.record.specs.Blocks.{countIf, earlier, annBelow, firstOf, pastOf, emptyStretch, stretch, blockOf, bytesIn}
+use Rattle.record.specs.Blocks.{countIf, earlier, annBelow, blockFirst, blockPast, emptyStretch, stretch, blockOf, bytesIn}
 use Rattle.record.specs.declared.Stretch.{Stretch}
 use Rattle.record.specs.declared.Checked.{Checked}
 use Rattle.record.proofs.Reading.{columnsAt, length-terms}
@@ -199,11 +199,11 @@ block-bounded l a c k f p ef ep = (
 -- the stretch lies within the record
 pub block-inside : (l : List ℕ) (a : ℕ) → (blockOf l a) .start + (blockOf l a) .len ≤ length l
 unfolding blockOf
-block-inside l a = go (eqb ((refusalOf 1 l) .number) 0) refl (eqb (firstOf l a) (pastOf l a))
+block-inside l a = go (eqb ((refusalOf 1 l) .number) 0) refl (eqb (blockFirst l a) (blockPast l a))
   where
     go : (b : Bool) → eqb ((refusalOf 1 l) .number) 0 ≡ b → (d : Bool)
-        → (cond b (cond d emptyStretch (record { start = 32 + 8 * countOf l + 8 * firstOf l a; len = 8 * (pastOf l a - firstOf l a) })) emptyStretch) .start
-        + (cond b (cond d emptyStretch (record { start = 32 + 8 * countOf l + 8 * firstOf l a; len = 8 * (pastOf l a - firstOf l a) })) emptyStretch) .len
+        → (cond b (cond d emptyStretch (record { start = 32 + 8 * countOf l + 8 * blockFirst l a; len = 8 * (blockPast l a - blockFirst l a) })) emptyStretch) .start
+        + (cond b (cond d emptyStretch (record { start = 32 + 8 * countOf l + 8 * blockFirst l a; len = 8 * (blockPast l a - blockFirst l a) })) emptyStretch) .len
         ≤ length l
     go true e true = zero-le
     go true e false =
@@ -301,4 +301,4 @@ block-words l a small e =
     let size = accepted-laid 1 l e .size in
     let whole = creations-read l small (countOf l) (omega arith) in
     rw (eq-eqb _ _ e, having-is a (termsOf l) (accepted-canonical 1 l e .ascending))
-    (stretch-bytes l (countOf l) (firstOf l a) (pastOf l a) whole (first-below-past a (termsOf l)) (past-inside l (countOf l) (a + 1)))
+    (stretch-bytes l (countOf l) (blockFirst l a) (blockPast l a) whole (first-below-past a (termsOf l)) (past-inside l (countOf l) (a + 1)))

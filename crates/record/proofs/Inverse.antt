@@ -11,7 +11,7 @@ use lib.ListN.{length, getD, take, drop, length-append, length-map}
 use lib.Seq.{drop-drop, take-add, take-all}
 use borrow.Author.Tests.{eq-eqb, le-leb}
 use mir.Syntax.{w64}
-use mir.Val.{SFits, toZ}
+use mir.Val.{SFits}
 use mir.Facts.{toZ-ofZ, ofZ-toZ, fits-ofZ}
 use Rattle.modes.specs.declared.Term.{Term}
 use Rattle.modes.specs.Answers.{none as unrefused}

@@ -24,11 +24,11 @@ abbrev pub annBelow : ℕ → Term → Bool
 annBelow a t = ltb (t .ann) a
 
 -- in a record, which ascends, the terms with the annihilation word a stand from this index on, and up to the other
-abbrev pub firstOf : List ℕ → ℕ → ℕ
-firstOf l a = countIf (annBelow a) (termsOf l)
+abbrev pub blockFirst : List ℕ → ℕ → ℕ
+blockFirst l a = countIf (annBelow a) (termsOf l)
 
-abbrev pub pastOf : List ℕ → ℕ → ℕ
-pastOf l a = countIf (annBelow (a + 1)) (termsOf l)
+abbrev pub blockPast : List ℕ → ℕ → ℕ
+blockPast l a = countIf (annBelow (a + 1)) (termsOf l)
 
 abbrev pub emptyStretch : Stretch
 emptyStretch = record { start = 0; len = 0 }
@@ -39,7 +39,7 @@ stretch n first past = cond (eqb first past) emptyStretch (record { start = 32 +
 
 -- of a record that is not accepted, the empty part
 unfoldable pub blockOf : List ℕ → ℕ → Stretch
-blockOf l a = cond (eqb ((refusalOf 1 l) .number) 0) (stretch (countOf l) (firstOf l a) (pastOf l a)) emptyStretch
+blockOf l a = cond (eqb ((refusalOf 1 l) .number) 0) (stretch (countOf l) (blockFirst l a) (blockPast l a)) emptyStretch
 
 -- the bytes of a stretch
 abbrev pub bytesIn : Stretch → List ℕ → List ℕ

@@ -8,7 +8,7 @@ ghost use mathlib.Core.Path.{_≡_};
 ghost use mathlib.Core.Bool.{true, false, _||_};
 ghost use Prim.Native.Nat.{_+_, _*_, _-_, _≤_, _<_, _^_, max};
 ghost use lib.IntN.{natAbs};
-ghost use lib.ListN.{length, take, drop};
+ghost use lib.ListN.{length};
 ghost use Rattle.lent.specs.Bytes.{put};
 ghost use Rattle.modes.specs.Words.{bit};
 ghost use Rattle.modes.specs.Counts.{count};

@@ -1,5 +1,5 @@
 -- `mat_elem::part_of` meets its contract.
-use mathlib.Core.Path.{_≡_, sym, ap, _∙_, subst}
+use mathlib.Core.Path.{_≡_, sym, ap, _∙_}
 use Prim.Native.Nat.{zero-le}
 use native.Mathlib.Nat.{le-refl}
 use mir.Facts.{toZ-ofZ}

@@ -1,5 +1,4 @@
 -- `pairs::append` meets its contract: no rows, the rows after those that are there, or too many.
-use lib.ListN.{length}
 use mir.Facts.{toZ-ofZ}
 use Rattle.products.proofs.ProductTheorems.{rows-fit}
 use mathlib.Core.Path.{sym, _∙_}

@@ -1,7 +1,4 @@
 -- `pairs::append_pair` meets its contract: the coefficients are the product, and the product with the sign.
-use mir.Facts.{toZ-ofZ}
-use Rattle.pairs.specs.Products.{pairRows}
-use Rattle.pairs.specs.Filling.{Adds}
 use Rattle.pairs.proofs.Appending.{appended-as}
 use Rattle.pairs.proofs.Filling.{product-adds}
 use Rattle.pairs.proofs.Pairing.{product-below, swapped-below, one-order, both-orders}

@@ -1,5 +1,4 @@
 -- `pairs::settle` meets its contract: the last row and the row in hand go, or the row in hand is stored.
-use lib.ListN.{length}
 use Rattle.pairs.proofs.Standing.{settled-cancelled, settled-kept}
 use borrow.Author.Needs.{needs}
 use Rattle.pairs.proofs.settle.Statement.{statement}

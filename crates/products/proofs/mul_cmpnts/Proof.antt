@@ -1,5 +1,5 @@
 -- `products::mul_cmpnts` meets its contract: empty, the rows, or no room.
-use mathlib.Core.Path.{_≡_, sym, _∙_, subst}
+use mathlib.Core.Path.{sym, _∙_, subst}
 use Prim.Native.Nat.{ℕ, _*_, _^_, _<_}
 use lib.Count.{ones}
 use lib.ListN.{length}

@@ -1,5 +1,5 @@
 -- `products::rows_fit` meets its contract: up to 58 branching modes the shift is exact, and from 59 on no slice is long enough.
-use mathlib.Core.Path.{_≡_, refl, sym, ap, _∙_}
+use mathlib.Core.Path.{_≡_, sym, ap}
 use mathlib.Core.Bool.{false}
 use Prim.Native.Nat.{ℕ, _*_, _%_, _^_, _≤_, _<_}
 use native.Mathlib.Nat.{mod-eq-of-lt}

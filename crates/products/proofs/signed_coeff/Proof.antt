@@ -1,5 +1,5 @@
 -- `products::signed_coeff` meets its contract.
-use mathlib.Core.Path.{_≡_, sym, ap, _∙_}
+use mathlib.Core.Path.{sym, ap, _∙_}
 use mathlib.Core.Bool.{Bool}
 use lib.IntN.{negℤ}
 use mir.Facts.{toZ-ofZ}

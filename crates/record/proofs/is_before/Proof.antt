@@ -6,15 +6,15 @@ use Rattle.record.proofs.is_before.Tie as tie
 
 returns : tie.Need-returns
 unfolding before
-returns c = simp (lt-ltb _ _ (c .if1 .taken))
+returns c = rw (lt-ltb _ _ (c .if1 .taken))
 
 returns-2 : tie.Need-returns-2
 unfolding before
-returns-2 c = simp (le-ltb _ _ (c .before .before .before .if1 .left), ne-eqb _ _ (c .if2 .taken))
+returns-2 c = rw (le-ltb _ _ (c .before .before .before .if1 .left), ne-eqb _ _ (c .if2 .taken))
 
 returns-3 : tie.Need-returns-3
 unfolding before
-returns-3 c = simp (le-ltb _ _ (c .before .before .before .before .before .if1 .left), eq-eqb _ _ (c .before .before .if2 .left))
+returns-3 c = rw (le-ltb _ _ (c .before .before .before .before .before .if1 .left), eq-eqb _ _ (c .before .before .if2 .left))
 
 pub is-before-spec : {M : Type 1} → statement M
 is-before-spec = tie.close (tie.spec returns returns-2 returns-3)

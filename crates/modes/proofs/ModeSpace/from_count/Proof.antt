@@ -1,5 +1,4 @@
 -- `modes::ModeSpace::from_count` meets its contract: the two tests are the definition's.
-use mathlib.Core.Path.{sym}
 use native.Mathlib.Omega.{arith}
 use borrow.Author.Tests.{le-leb, lt-leb}
 use Rattle.modes.proofs.ModeSpace.from_count.Statement.{statement}

@@ -1,5 +1,4 @@
 -- `modes::Sign::mul` meets its contract.
-use mathlib.Core.Path.{sym}
 use Rattle.modes.specs.Bools.{_⊕_}
 use Rattle.modes.proofs.Sign.mul.Statement.{statement}
 use Rattle.modes.proofs.Sign.mul.Tie as tie
