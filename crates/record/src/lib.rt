@@ -161,10 +161,7 @@ pub fn size(t: Term) -> u64
 pub fn is_inside(space: ModeSpace, cre: u64, ann: u64) -> bool
     ensures { λ r. ⌜ r ≡ inside (space .count) cre ann ⌝ }
 {
-    if !space.contains(ann) {
-        return false;
-    }
-    space.contains(cre)
+    space.contains(ann | cre)
 }
 
 // Numbers 2, 3 and 4 of the term t at `place`; `up` says that it is the first or above the one before it.
