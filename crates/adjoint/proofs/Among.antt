@@ -1,7 +1,7 @@
 -- A record is Hermitian exactly if the adjoint of every term is among its terms; and halving finds a term that is among them.
 use mathlib.Core.Path.{_≡_, refl, sym, ap, ap₂, _∙_, subst}
 use mathlib.Core.Bool.{Bool, true, false, cond, true≢false}
-use mathlib.Core.List.{List, [], _∷_, _++_}
+use mathlib.Core.List.{List, [], _∷_}
 use mathlib.Core.Logic.{inl, inr}
 use Prim.Native.Nat.{ℕ, suc, _+_, _≤_}
 use native.Mathlib.Omega.{arith}
@@ -14,6 +14,7 @@ use lib.ListN.{length, take, drop, drop-of-length-le}
 use lib.Seq.{take-all}
 use Rattle.modes.specs.declared.Term.{Term}
 use Rattle.lent.specs.Every.{Every, none, more}
+use Rattle.lent.proofs.Every.{every-last}
 use Rattle.lent.proofs.RowLaws.{term-of}
 use Rattle.record.specs.Terms.{before, Above, Ascending, empty, above}
 use Rattle.record.specs.Blocks.{countIf, earlier}
@@ -107,14 +108,10 @@ same-words t u p q f g =
 
 -- ---- the walk over the terms
 
-every-more : (P : Term → Type 0) (ts : List Term) (t : Term) → Every P ts → P t → Every P (ts ++ (t ∷ []))
-every-more P [] t none p = more p none
-every-more P (u ∷ ts) t (more q qs) p = more q (every-more P ts t qs p)
-
 pub pairing-goes : (ts us : List Term) (i : ℕ) (t u : Term) (b : Bool) → Paired ts (take i ts) → drop i ts ≡ t ∷ us → u ≡ adjointTerm t
     → Tells b (Among u ts) → b ≡ true → Paired ts (take (i + 1) ts)
 pairing-goes ts us i t u b h e q k y =
-    rw (take-one-more ts us t i e) (every-more (λ v. Among (adjointTerm v) ts) (take i ts) t h (rw q at (k .yes y)))
+    rw (take-one-more ts us t i e) (every-last (take i ts) t h (rw q at (k .yes y)))
 
 pub pairing-fails : (ts us : List Term) (i : ℕ) (t u : Term) (b : Bool) → drop i ts ≡ t ∷ us → u ≡ adjointTerm t → Tells b (Among u ts) → b ≡ false
     → Tells false (Paired ts ts)

@@ -13,6 +13,7 @@ use Rattle.modes.specs.Counts.{parity, count, pairs}
 use Rattle.modes.specs.declared.Term.{Term}
 use Rattle.modes.specs.declared.Sign.{Sign}
 use Rattle.lent.specs.Every.{Every}
+use Rattle.lent.proofs.Every.{every-implies}
 use Rattle.lent.specs.Rows.{Fit}
 use Rattle.products.specs.PhaseRule.{Outcome, gone, went, term}
 use Rattle.products.specs.Operators.{signed, adds, part, element}
@@ -20,7 +21,7 @@ use Rattle.products.specs.Apply.{resultOf}
 use Rattle.products.specs.declared.ApplyResult.the-variants.{Applied}
 use Rattle.products.proofs.Applying.{swapped-restores}
 use Rattle.adjoint.specs.Adjoint.{oddPairs, adjointTerm, adjointTerms}
-use Rattle.adjoint.proofs.Terms.{sum-adjoint, sum-same, each-term}
+use Rattle.adjoint.proofs.Terms.{sum-adjoint, sum-same}
 
 -- ---- the swapped term restores the ket
 
@@ -80,4 +81,4 @@ part-adjoint bra ket t f = go _ _ refl refl
 
 pub element-adjoint : (bra ket : ℕ) (ts : List Term) → Every Fit ts → element bra ket (adjointTerms ts) ≡ element ket bra ts
 element-adjoint bra ket ts f =
-    sum-adjoint (part bra ket) ts ∙ sum-same (λ t. part bra ket (adjointTerm t)) (part ket bra) ts (each-term ts (part-adjoint bra ket) f)
+    sum-adjoint (part bra ket) ts ∙ sum-same (λ t. part bra ket (adjointTerm t)) (part ket bra) ts (every-implies ts (part-adjoint bra ket) f)

@@ -13,6 +13,7 @@ use lib.IntN.{ℤ}
 use Rattle.modes.specs.declared.Term.{Term}
 use Rattle.lent.specs.Bytes.{num, numAt, put, zeros}
 use Rattle.lent.specs.Every.{Every, none, more}
+use Rattle.lent.proofs.Every.{every-map, every-both}
 use Rattle.lent.specs.Rows.{Fit}
 use Rattle.lent.proofs.SignedNumbers.{abs-fits}
 use Rattle.lent.proofs.Puts.{length-put, put-join}
@@ -34,7 +35,7 @@ use Rattle.record.proofs.Order.{Order, lower, level, order, ordered, above-tran
 use Rattle.record.proofs.Reading.{length-terms, term-at}
 use Rattle.record.proofs.Inverse.{Small, length-header, length-encode, columns-read, count-read, terms-read, canonical-fit}
 use Rattle.adjoint.specs.Adjoint.{Negatable, adjointTerm, adjointTerms}
-use Rattle.adjoint.proofs.Terms.{is-adjoint, same-size, still-nonzero, each-term, length-adjoint, negatable}
+use Rattle.adjoint.proofs.Terms.{is-adjoint, same-size, still-nonzero, length-adjoint, negatable}
 use Rattle.adjoint.proofs.Writing.{none-at, every-drop, take-one-more}
 
 -- ---- the terms of a record are those at its columns
@@ -126,13 +127,8 @@ still-fit : (t : Term) → Fit t → Negatable t → Fit (adjointTerm t)
 unfolding adjointTerm
 still-fit t f h = record { ann = f .cre; cre = f .ann; coeff = abs-fits _ (omega (arith, same-size t)) }
 
-map-every : (P : Term → Type 0) (ts : List Term) → Every (λ t. P (adjointTerm t)) ts → Every P (map adjointTerm ts)
-map-every P [] none = none
-map-every P (t ∷ ts) (more p ps) = more p (map-every P ts ps)
-
 fit-adjoint : (ts : List Term) → Every Fit ts → Every Negatable ts → Every Fit (map adjointTerm ts)
-fit-adjoint [] none none = none
-fit-adjoint (t ∷ ts) (more f fs) (more h hs) = more (still-fit t f h) (fit-adjoint ts fs hs)
+fit-adjoint ts f h = every-map adjointTerm ts (λ t k. still-fit t (k .0) (k .1)) (every-both ts f h)
 
 at-map : (ts : List Term) (i : ℕ) → i < length ts → at (map adjointTerm ts) i ≡ adjointTerm (at ts i)
 unfolding at
@@ -192,7 +188,7 @@ module _ (m n : ℕ) (ts : List Term) (size : length ts ≡ n) (k : Canonical m 
   pub sorted-terms : termsIn three n ≡ adjointTerms ts
   sorted-terms =
       is-adjoint ts (termsIn three n) (k .ascending) (k .nonzero) ascends
-      (every-sorted Nonzero (map-every Nonzero ts (each-term ts still-nonzero (k .nonzero)))) sums
+      (every-sorted Nonzero (every-map adjointTerm ts still-nonzero (k .nonzero))) sums
 
   -- the front is the adjoint's record
   pub sorted-front : 32 + 24 * n ≤ length three → take (32 + 24 * n) three ≡ encode m (adjointTerms ts)

@@ -9,6 +9,7 @@ use lib.ListN.{length}
 use Rattle.modes.specs.declared.Term.{Term}
 use Rattle.modes.specs.Counts.{parity, pairs}
 use Rattle.lent.specs.Every.{Every, none, more}
+use Rattle.lent.proofs.Every.{every-implies, every-all}
 use Rattle.lent.proofs.RowLaws.{term-of}
 use Rattle.products.specs.Operators.{signed}
 use Rattle.modes.specs.Sums.{sumOf}
@@ -127,10 +128,6 @@ unfolding adjointTerms
 every-adjoint P [] none = none
 every-adjoint P (t ∷ ts) (more p ps) = every-inserted (adjointTerm t) P (adjointTerms ts) p (every-adjoint P ts ps)
 
-pub each-term : {P Q : Term → Type 0} (ts : List Term) → ((t : Term) → P t → Q t) → Every P ts → Every Q ts
-each-term [] f none = none
-each-term (t ∷ ts) f (more p ps) = more (f t p) (each-term ts f ps)
-
 pub length-adjoint : (ts : List Term) → length (adjointTerms ts) ≡ length ts
 unfolding adjointTerms
 length-adjoint [] = refl
@@ -151,10 +148,10 @@ pub ascending-adjoint : (ts : List Term) → Ascending ts → Ascending (adjoint
 unfolding adjointTerms
 ascending-adjoint [] empty = empty
 ascending-adjoint (t ∷ ts) (above h s) =
-    ascending-inserted (adjointTerm t) (adjointTerms ts) (every-adjoint (Other (adjointTerm t)) ts (each-term ts (still-other t) h)) (ascending-adjoint ts s)
+    ascending-inserted (adjointTerm t) (adjointTerms ts) (every-adjoint (Other (adjointTerm t)) ts (every-implies ts (still-other t) h)) (ascending-adjoint ts s)
 
 pub nonzero-adjoint : (ts : List Term) → Every Nonzero ts → Every Nonzero (adjointTerms ts)
-nonzero-adjoint ts h = every-adjoint Nonzero ts (each-term ts still-nonzero h)
+nonzero-adjoint ts h = every-adjoint Nonzero ts (every-implies ts still-nonzero h)
 
 pub canonical-adjoint : (m : ℕ) (ts : List Term) → Canonical m ts → Canonical m (adjointTerms ts)
 canonical-adjoint m ts k =
@@ -162,7 +159,7 @@ canonical-adjoint m ts k =
       some = k .some;
       most = k .most;
       few = omega (arith, k .few, length-adjoint ts);
-      inside = every-adjoint (Inside m) ts (each-term ts (still-inside m) (k .inside));
+      inside = every-adjoint (Inside m) ts (every-implies ts (still-inside m) (k .inside));
       ascending = ascending-adjoint ts (k .ascending);
       nonzero = nonzero-adjoint ts (k .nonzero);
       light = omega (arith, k .light, weight-adjoint ts);
@@ -174,10 +171,6 @@ pub sum-same : (v w : Term → ℤ) (ts : List Term) → Every (λ t. v t ≡ w 
 unfolding sumOf
 sum-same v w [] none = refl
 sum-same v w (t ∷ ts) (more h hs) = ap (λ (z : ℤ). z +ℤ sumOf v ts) h ∙ ap (λ (z : ℤ). w t +ℤ z) (sum-same v w ts hs)
-
-pub every-term : (P : Term → Type 0) (ts : List Term) → ((t : Term) → P t) → Every P ts
-every-term P [] h = none
-every-term P (t ∷ ts) h = more (h t) (every-term P ts h)
 
 -- an ascending list of the adjoint terms, whatever made it
 pub is-adjoint : (ts us : List Term) → Ascending ts → Every Nonzero ts → Ascending us → Every Nonzero us
@@ -192,14 +185,14 @@ terms-twice m ts k =
     let j = canonical-adjoint m ts k in
     sym (is-adjoint (adjointTerms ts) ts (j .ascending) (j .nonzero) (k .ascending) (k .nonzero)
     (λ w. sym (sum-map w adjointTerm (adjointTerms ts) ∙ sum-adjoint (λ t. w (adjointTerm t)) ts
-    ∙ sum-same (λ t. w (adjointTerm (adjointTerm t))) w ts (every-term _ ts (λ t. ap w (adjoint-twice t))))))
+    ∙ sum-same (λ t. w (adjointTerm (adjointTerm t))) w ts (every-all ts (λ t. ap w (adjoint-twice t))))))
 
 -- ---- what can be negated
 
 light-negatable : (ts : List Term) → weight ts ≤ 2 ^ 60 → Every Negatable ts
 unfolding weight
 light-negatable [] h = none
-light-negatable (t ∷ ts) h = more {t = t} (omega arith) (light-negatable ts (omega arith))
+light-negatable (t ∷ ts) h = more {x = t} (omega arith) (light-negatable ts (omega arith))
 
 pub negatable : (m : ℕ) (ts : List Term) → Canonical m ts → Every Negatable ts
 negatable m ts k = light-negatable ts (k .light)

@@ -12,6 +12,7 @@ use Rattle.modes.specs.Sums.{sumOf}
 use Rattle.modes.specs.declared.Term.{Term}
 use Rattle.modes.proofs.Bools.{and-l, and-r}
 use Rattle.lent.specs.Every.{Every, none, more}
+use Rattle.lent.proofs.Every.{every-implies, every-both}
 use Rattle.record.specs.Terms.{before, Above, Ascending, empty, above}
 use Rattle.record.specs.Coefficients.{coeffIn, coeffOf}
 use Rattle.record.proofs.Order.{Order, lower, level, order}
@@ -93,10 +94,6 @@ some-those P p (t ∷ ts) f s = go (some-those P p ts f) (p t) refl s
     go rest false e (inl h) = absurd (true≢false (sym (f t h) ∙ e))
     go rest false e (inr k) = rest k
 
-every-implies : {P Q : Term → Type 0} (ts : List Term) → ((t : Term) → P t → Q t) → Every P ts → Every Q ts
-every-implies [] f none = none
-every-implies (t ∷ ts) f (more h hs) = more (f t h) (every-implies ts f hs)
-
 module _ (ts us : List Term) where
   told : (t : Term) → differs ts us t ≡ true → Differ ts us (t .cre) (t .ann)
   told t e q =
@@ -137,10 +134,6 @@ own-coeffs (t ∷ ts) (above h s) = more (own-coeff t ts h) (go ts h (own-coeffs
     go [] none none = none
     go (u ∷ us) (more b bs) (more e es) =
         more (ap (λ (z : ℤ). z +ℤ coeffOf (u .cre) (u .ann) ts) (later-words t u b) ∙ +ℤ-idl (coeffOf (u .cre) (u .ann) ts) ∙ e) (go us bs es)
-
-every-both : {P Q : Term → Type 0} (ts : List Term) → Every P ts → Every Q ts → Every (λ t. P t × Q t) ts
-every-both [] none none = none
-every-both (t ∷ ts) (more p ps) (more q qs) = more (p, q) (every-both ts ps qs)
 
 module _ (ts us : List Term) (s : Ascending ts) (r : Ascending us) where
   abbrev difference : List Term

@@ -18,7 +18,7 @@ use Rattle.modes.specs.declared.Refusal.{Refusal}
 use Rattle.modes.proofs.Bools.{and-l, and-r}
 use Rattle.modes.proofs.Digits.{lt-or-ge}
 use Rattle.products.specs.PhaseRule.{Outcome, gone, went}
-use Rattle.products.specs.Lists.{Each}
+use Rattle.lent.specs.Every.{Every, none as nothing, more}
 use Rattle.record.specs.Refusals.{orElse, inside}
 use Rattle.record.proofs.Refusals.{or-second}
 use Rattle.record.proofs.Accepted.{neither}
@@ -112,21 +112,21 @@ module _ (bra ket : ℕ) (cre ann : List ℕ) (n i : ℕ) (s : Bool) (only : Onl
         ⊎-elim (λ l. rw (from k l h) (exactly-finite (signed s (getD cs i nan)) (signed-finite s (getD cs i nan) f))) (λ l. rw (before k l)) (lt-or-ge i k)
 
   -- all parts
-  all-so-far : (parts : List (List Float)) → Each Doubles parts → allFinite (map (λ cs. getD cs i nan) parts) ≡ true → (k : ℕ) → k ≤ n
+  all-so-far : (parts : List (List Float)) → Every Doubles parts → allFinite (map (λ cs. getD cs i nan) parts) ≡ true → (k : ℕ) → k ≤ n
       → allFinite (sumsTo bra ket cre ann parts k) ≡ true
-  all-so-far [] d f k h = refl
-  all-so-far (cs ∷ parts) d f k h =
-      rw (finite-so-far cs (d .0) (and-l (finite (getD cs i nan)) _ f) k h) (all-so-far parts (d .1) (and-r (finite (getD cs i nan)) _ f) k h)
+  all-so-far [] nothing f k h = refl
+  all-so-far (cs ∷ parts) (more d ds) f k h =
+      rw (finite-so-far cs d (and-l (finite (getD cs i nan)) _ f) k h) (all-so-far parts ds (and-r (finite (getD cs i nan)) _ f) k h)
 
-  none-stops : (parts : List (List Float)) → Each Doubles parts → allFinite (map (λ cs. getD cs i nan) parts) ≡ true → (k : ℕ) → k ≤ n
+  none-stops : (parts : List (List Float)) → Every Doubles parts → allFinite (map (λ cs. getD cs i nan) parts) ≡ true → (k : ℕ) → k ≤ n
       → firstRefusal (sumAt bra ket cre ann parts) k ≡ none
   none-stops parts d f zero h = first-starts _
   none-stops parts d f (suc k) h =
       sym (ap (firstRefusal (sumAt bra ket cre ann parts)) (add-one k)) ∙ first-goes _ k (none-stops parts d f k (omega arith)) (rw (all-so-far parts d f (suc k) h))
 
-  all-came : (parts : List (List Float)) → Each Doubles parts → sumsTo bra ket cre ann parts n ≡ map came parts
-  all-came [] d = refl
-  all-came (cs ∷ parts) d = ap₂ (λ (x : Float) (xs : List Float). x ∷ xs) (from cs (d .0) n (only .inside) (omega arith)) (all-came parts (d .1))
+  all-came : (parts : List (List Float)) → Every Doubles parts → sumsTo bra ket cre ann parts n ≡ map came parts
+  all-came [] nothing = refl
+  all-came (cs ∷ parts) (more d ds) = ap₂ (λ (x : Float) (xs : List Float). x ∷ xs) (from cs d n (only .inside) (omega arith)) (all-came parts ds)
 
 term-finite : (m i cre ann : ℕ) (c : List Float) → termRefusal m i cre ann c .number ≡ 0 → allFinite c ≡ true
 unfolding termRefusal
@@ -137,7 +137,7 @@ term-finite m i cre ann c = go (inside m cre ann)
     go false z = absurd (omega arith)
 
 -- where the inputs are not refused, one joining term is answered by its coefficient with its sign
-pub one-joining : (m : ℕ) (cre ann : List ℕ) (parts : List (List Float)) (bra ket i : ℕ) (s : Bool) → Each Doubles parts → inputRefusal m cre ann parts bra ket .number ≡ 0
+pub one-joining : (m : ℕ) (cre ann : List ℕ) (parts : List (List Float)) (bra ket i : ℕ) (s : Bool) → Every Doubles parts → inputRefusal m cre ann parts bra ket .number ≡ 0
     → OnlyJoins bra ket cre ann (length cre) i s
     → _≡_ {A = Told} (floatElement m cre ann parts bra ket) (record { refusal = none; values = map (λ cs. exactly (signed s (getD cs i nan))) parts })
 unfolding floatElement inputRefusal sumRefusal unless

@@ -9,6 +9,7 @@ use borrow.Author.Tests.{ne-eqb}
 use Rattle.modes.specs.Sums.{sumOf}
 use Rattle.modes.specs.declared.Term.{Term}
 use Rattle.lent.specs.Every.{Every, none, more}
+use Rattle.lent.proofs.Every.{every-last}
 use Rattle.record.specs.Terms.{before, Ascending, empty, above}
 use Rattle.record.specs.Coefficients.{coeffIn, coeffOf}
 use Rattle.record.proofs.Order.{Order, lower, level, order, before-trans}
@@ -17,13 +18,9 @@ use Rattle.record.proofs.Order.{Order, lower, level, order, before-trans}
 abbrev pub Under : Term → List Term → Type 0
 Under x ts = Every (λ t. before t x ≡ true) ts
 
-pub every-end : (P : Term → Type 0) (ts : List Term) (x : Term) → Every P ts → P x → Every P (ts ++ (x ∷ []))
-every-end P [] x none p = more p none
-every-end P (t ∷ ts) x (more q e) p = more q (every-end P ts x e p)
-
 pub ascending-end : (ts : List Term) (x : Term) → Ascending ts → Under x ts → Ascending (ts ++ (x ∷ []))
 ascending-end [] x empty none = above none empty
-ascending-end (t ∷ ts) x (above h a) (more b u) = above (every-end (λ v. before t v ≡ true) ts x h b) (ascending-end ts x a u)
+ascending-end (t ∷ ts) x (above h a) (more b u) = above (every-last ts x h b) (ascending-end ts x a u)
 
 pub under-trans : (ts : List Term) (x y : Term) → Under x ts → before x y ≡ true → Under y ts
 under-trans [] x y none b = none

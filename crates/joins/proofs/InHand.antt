@@ -14,6 +14,7 @@ use Rattle.modes.specs.Sums.{sumOf}
 use Rattle.modes.specs.declared.Term.{Term}
 use Rattle.modes.proofs.Sums.{sum-last}
 use Rattle.lent.specs.Every.{Every, none}
+use Rattle.lent.proofs.Every.{every-last}
 use Rattle.lent.specs.Rows.{Fit}
 use Rattle.lent.proofs.RowLaws.{term-of}
 use Rattle.rows.specs.Order.{key}
@@ -26,7 +27,7 @@ use Rattle.lincomb.proofs.Totals.{where-add, where-zero}
 use Rattle.record.proofs.Order.{lower, level, ordered}
 use Rattle.joins.specs.KeyWeights.{keyWeight}
 use Rattle.joins.specs.Steps.{Ended, dropped, stored}
-use Rattle.joins.proofs.Ends.{Under, every-end, ascending-end, under-trans, under-same, under-none}
+use Rattle.joins.proofs.Ends.{Under, ascending-end, under-trans, under-same, under-none}
 use Rattle.joins.proofs.KeyWeights.{coeff-below, weight-end}
 
 -- the rows ts are done, and are what the rows us make together
@@ -95,14 +96,14 @@ module _ (ts us : List Term) (x : Term) (s : InHand ts x us) where
   }
   closed-done vs (stored z e) = subst (λ (w : List Term). Done w us) (sym e) record {
     ascending = ascending-end ts x (s .ascending) (s .under);
-    nonzero = every-end Nonzero ts x (s .nonzero) z;
-    fit = every-end Fit ts x (s .fit) (s .own);
+    nonzero = every-last ts x (s .nonzero) z;
+    fit = every-last ts x (s .fit) (s .own);
     coeff = λ c a. sum-last (coeffIn c a) ts x ∙ s .coeff c a;
   }
 
   closed-under : (vs : List Term) (y : Term) → Ended ts x vs → before x y ≡ true → Under y vs
   closed-under vs y (dropped z e) b = subst (Under y) (sym e) (under-trans ts x y (s .under) b)
-  closed-under vs y (stored z e) b = subst (Under y) (sym e) (every-end (λ t. before t y ≡ true) ts x (under-trans ts x y (s .under) b) b)
+  closed-under vs y (stored z e) b = subst (Under y) (sym e) (every-last ts x (under-trans ts x y (s .under) b) b)
 
   -- the next row has other words
   pub next-in-hand : (vs : List Term) (y : Term) → Ended ts x vs → before x y ≡ true → Fit y → InHand vs y (us ++ (y ∷ []))

@@ -4,3 +4,4 @@ pub mod NumbersAt
 pub mod SignedNumbers
 pub mod RowLaws
 pub mod Outputs
+pub mod Every

@@ -1,7 +1,10 @@
--- What holds of every term of a list.
+-- What holds of every entry of a list, and between each entry and every later one.
 use mathlib.Core.List.{List, [], _∷_}
-use Rattle.modes.specs.declared.Term.{Term}
 
-pub data Every (P : Term → Type 0) : List Term → Type 0 where
+pub data Every {A : Type 0} (P : A → Type 0) : List A → Type 0 where
   none : Every P []
-  more : {t : Term} {ts : List Term} → P t → Every P ts → Every P (t ∷ ts)
+  more : {x : A} {l : List A} → P x → Every P l → Every P (x ∷ l)
+
+pub data Pairwise {A : Type 0} (R : A → A → Type 0) : List A → Type 0 where
+  nothing : Pairwise R []
+  beside : {x : A} {l : List A} → Every (R x) l → Pairwise R l → Pairwise R (x ∷ l)

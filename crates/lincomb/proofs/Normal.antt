@@ -1,13 +1,14 @@
 -- The normal form of a list of terms ascends and has no zeros, and is the only such list with its coefficients.
 use mathlib.Core.Path.{_≡_, refl, sym, ap, _∙_}
 use mathlib.Core.Bool.{Bool, true, false, cond, true≢false}
-use mathlib.Core.List.{List, [], _∷_, _++_, map}
+use mathlib.Core.List.{List, [], _∷_, map}
 use Prim.Native.Nat.{ℕ}
 use lib.Dec.{eqb}
 use lib.IntN.{natAbs}
 use borrow.Author.Tests.{eq-eqb, eqb-false}
 use Rattle.modes.specs.declared.Term.{Term}
 use Rattle.lent.specs.Every.{Every, none, more}
+use Rattle.lent.proofs.Every.{every-map}
 use Rattle.products.specs.Operators.{element}
 use Rattle.record.specs.Terms.{before, Above, Ascending, empty, above}
 use Rattle.record.specs.Coefficients.{coeffOf}
@@ -20,10 +21,6 @@ use Rattle.lincomb.proofs.Totals.{coeff-normal, element-normal}
 
 -- ---- what holds of every term
 
-pub every-append : {P : Term → Type 0} (ts us : List Term) → Every P ts → Every P us → Every P (ts ++ us)
-every-append [] us none h = h
-every-append (t ∷ ts) us (more p ps) h = more p (every-append ts us ps h)
-
 pub every-drop : {P : Term → Type 0} (ts : List Term) → Every P ts → Every P (dropZeros ts)
 unfolding dropZeros
 every-drop [] none = none
@@ -32,10 +29,6 @@ every-drop {P} (t ∷ ts) (more p ps) = go (every-drop ts ps) (eqb (natAbs (t .c
     go : Every P (dropZeros ts) → (b : Bool) → Every P (cond b (dropZeros ts) (t ∷ dropZeros ts))
     go h true = h
     go h false = more p h
-
-pub every-map : {P Q : Term → Type 0} (f : Term → Term) (ts : List Term) → ((t : Term) → P t → Q (f t)) → Every P ts → Every Q (map f ts)
-every-map f [] h none = none
-every-map f (t ∷ ts) h (more p ps) = more (h t p) (every-map f ts h ps)
 
 -- of what joining keeps
 abbrev pub Joins : (Term → Type 0) → Type 0

@@ -11,6 +11,7 @@ use Rattle.modes.specs.declared.Refusal.{Refusal}
 use Rattle.modes.specs.declared.Written.{Written}
 use Rattle.modes.specs.Answers.{none}
 use Rattle.lent.specs.Every.{Every}
+use Rattle.lent.proofs.Every.{every-append, every-map}
 use Rattle.lent.specs.Outputs.{refusedOutput, filledOutput, Gives}
 use Rattle.products.specs.Operators.{signed, part, element}
 use Rattle.record.specs.Terms.{weight}
@@ -26,7 +27,7 @@ use Rattle.lincomb.specs.Tallies.{Tallied}
 use Rattle.lincomb.specs.declared.Opened.{Opened}
 use Rattle.lincomb.specs.declared.Tally.{Tally}
 use Rattle.lincomb.proofs.Totals.{element-normal, element-turn}
-use Rattle.lincomb.proofs.Normal.{every-append, every-map, every-normal, ascending-turn, normal-ascending, normal-nonzero}
+use Rattle.lincomb.proofs.Normal.{every-normal, ascending-turn, normal-ascending, normal-nonzero}
 use Rattle.lincomb.proofs.Merging.{merge-normal}
 use Rattle.lincomb.proofs.Results.{Opens, opens, shuts, sound, first-fine, second-fine, same-modes, Deliverable, deliverable, verdict-same, refused-earlier, refused-late, delivers, result-earlier, result-accepted, result-modes, result-terms}
 

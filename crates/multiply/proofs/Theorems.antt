@@ -2,7 +2,7 @@
 use mathlib.Core.Path.{_≡_, ap, _∙_}
 use mathlib.Core.Bool.{Bool, true, false, cond}
 use mathlib.Core.List.{List, [], _∷_}
-use Prim.Native.Nat.{ℕ, _^_, _≤_, _<_}
+use Prim.Native.Nat.{ℕ, _≤_}
 use native.Mathlib.Nat.{lt-of-lt-of-le}
 use lib.IntN.{ℤ, negℤ, _+ℤ_, _*ℤ_, +ℤ-idr}
 use lib.ListN.{take}
@@ -11,6 +11,7 @@ use Rattle.modes.specs.declared.Term.{Term}
 use Rattle.modes.specs.declared.Written.{Written}
 use Rattle.modes.specs.Answers.{none}
 use Rattle.lent.specs.Every.{Every, none as nothing, more}
+use Rattle.lent.proofs.Every.{every-implies, every-append}
 use Rattle.lent.specs.Outputs.{Gives}
 use Rattle.products.specs.Operators.{signed, element}
 use Rattle.products.specs.Product.{rowsTimes}
@@ -23,7 +24,7 @@ use Rattle.record.proofs.Accepted.{neither, accepted-canonical}
 use Rattle.lincomb.specs.Normal.{normal}
 use Rattle.lincomb.specs.Results.{pairRefusal}
 use Rattle.lincomb.proofs.Totals.{element-normal}
-use Rattle.lincomb.proofs.Normal.{every-append, every-normal, normal-ascending, normal-nonzero}
+use Rattle.lincomb.proofs.Normal.{every-normal, normal-ascending, normal-nonzero}
 use Rattle.lincomb.proofs.Sums.{inside-joins}
 use Rattle.lincomb.proofs.Results.{first-fine, second-fine, same-modes, result-earlier, result-accepted, result-modes, result-terms}
 use Rattle.pairs.specs.Products.{pairRows, rowsWith, allRows, allBranches, inTurn}
@@ -34,11 +35,9 @@ use Rattle.multiply.proofs.Elements.{other, all-elements}
 
 module _ (m : ℕ) where
   rows-inside : (t u : Term) (z : ℤ) → Inside m t → Inside m u → Every (Inside m) (rowsTimes (t .cre) (t .ann) (u .cre) (u .ann) z)
-  rows-inside t u z ht hu = all (rowsTimes (t .cre) (t .ann) (u .cre) (u .ann) z) (rows-within (t .cre) (t .ann) (u .cre) (u .ann) m (ht .cre) (ht .ann) (hu .cre) (hu .ann) z)
-    where
-      all : (rs : List Term) → Every (λ r. (r .ann < 2 ^ m) × (r .cre < 2 ^ m)) rs → Every (Inside m) rs
-      all [] nothing = nothing
-      all (r ∷ rs) (more h hs) = more (record { ann = h .0; cre = h .1 }) (all rs hs)
+  rows-inside t u z ht hu =
+      every-implies (rowsTimes (t .cre) (t .ann) (u .cre) (u .ann) z) (λ r h. record { ann = h .0; cre = h .1 })
+      (rows-within (t .cre) (t .ann) (u .cre) (u .ann) m (ht .cre) (ht .ann) (hu .cre) (hu .ann) z)
 
   module _ (both minus : Bool) where
     pair-inside : (t u : Term) → Inside m t → Inside m u → Every (Inside m) (pairRows both minus t u)
@@ -60,9 +59,7 @@ module _ (m : ℕ) where
     all-inside (t ∷ ts) us (more ht hts) hus = every-append (rowsWith both minus t us) (allRows both minus ts us) (with-inside t us ht hus) (all-inside ts us hts hus)
 
 wider : (m : ℕ) → m ≤ 64 → (ts : List Term) → Every (Inside m) ts → Every (Inside 64) ts
-wider m h [] nothing = nothing
-wider m h (t ∷ ts) (more k ks) =
-    more (record { ann = lt-of-lt-of-le (k .ann) (pow-mono h); cre = lt-of-lt-of-le (k .cre) (pow-mono h) }) (wider m h ts ks)
+wider m h ts = every-implies ts (λ t k. record { ann = lt-of-lt-of-le (k .ann) (pow-mono h); cre = lt-of-lt-of-le (k .cre) (pow-mono h) })
 
 -- ---- the bytes that a call leaves where it is not refused
 

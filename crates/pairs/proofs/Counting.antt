@@ -11,10 +11,9 @@ use lib.ListN.{length, length-append}
 use borrow.Author.Tests.{eqb-true}
 use Rattle.modes.specs.Counts.{count}
 use Rattle.modes.specs.declared.Term.{Term}
-use Rattle.lent.specs.Every.{Every, none, more}
+use Rattle.lent.specs.Every.{Every, none, more, Pairwise, nothing, beside}
 use Rattle.lent.proofs.SignedNumbers.{abs-product}
 use Rattle.products.specs.Operators.{signed}
-use Rattle.products.specs.Lists.{Each, Pairwise}
 use Rattle.products.specs.Product.{Other, choices, notEmpty, branching, minusAt, rowTimes, rowsTimes}
 use Rattle.products.proofs.Multiplied.{rows-none, rows-number}
 use Rattle.products.proofs.ProductTheorems.{rows-differ}
@@ -61,23 +60,23 @@ module _ (both minus : Bool) where
 
 -- one of rows that all differ has the words, at most
 module _ (cre ann : ℕ) where
-  apart : (t : Term) (rs : List Term) → t .cre ≡ cre → t .ann ≡ ann → Each (Other t) rs → keyWeight cre ann rs ≡ 0
+  apart : (t : Term) (rs : List Term) → t .cre ≡ cre → t .ann ≡ ann → Every (Other t) rs → keyWeight cre ann rs ≡ 0
   unfolding keyWeight
-  apart t [] ec ea h = refl
-  apart t (r ∷ rs) ec ea h = omega (arith, go (eqb (r .ann) ann) (eqb (r .cre) cre) refl refl, apart t rs ec ea (h .1))
+  apart t [] ec ea none = refl
+  apart t (r ∷ rs) ec ea (more h hs) = omega (arith, go (eqb (r .ann) ann) (eqb (r .cre) cre) refl refl, apart t rs ec ea hs)
     where
       go : (x y : Bool) → eqb (r .ann) ann ≡ x → eqb (r .cre) cre ≡ y → natAbs (cond (x && y) (r .coeff) (pos 0)) ≡ 0
-      go true true p q = absurd (h .0 (ec ∙ sym (eqb-true _ _ q)) (ea ∙ sym (eqb-true _ _ p)))
+      go true true p q = absurd (h (ec ∙ sym (eqb-true _ _ q)) (ea ∙ sym (eqb-true _ _ p)))
       go true false p q = refl
       go false y p q = refl
 
   one-weighs : (n : ℕ) (rs : List Term) → Pairwise Other rs → Every (λ r. natAbs (r .coeff) ≤ n) rs → keyWeight cre ann rs ≤ n
   unfolding keyWeight
-  one-weighs n [] d none = omega arith
-  one-weighs n (r ∷ rs) d (more h hs) = go (one-weighs n rs (d .1) hs) (eqb (r .ann) ann) (eqb (r .cre) cre) refl refl
+  one-weighs n [] nothing none = omega arith
+  one-weighs n (r ∷ rs) (beside d ds) (more h hs) = go (one-weighs n rs ds hs) (eqb (r .ann) ann) (eqb (r .cre) cre) refl refl
     where
       go : keyWeight cre ann rs ≤ n → (x y : Bool) → eqb (r .ann) ann ≡ x → eqb (r .cre) cre ≡ y → natAbs (cond (x && y) (r .coeff) (pos 0)) + keyWeight cre ann rs ≤ n
-      go later true true p q = omega (arith, h, apart r rs (eqb-true _ _ q) (eqb-true _ _ p) (d .0))
+      go later true true p q = omega (arith, h, apart r rs (eqb-true _ _ q) (eqb-true _ _ p) d)
       go later true false p q = omega (arith, later)
       go later false y p q = omega (arith, later)
 

@@ -15,7 +15,8 @@ use Rattle.modes.specs.Words.{Modes, bit}
 use Rattle.modes.specs.Counts.{count}
 use Rattle.modes.proofs.Bools.{⊕-false, ⊕-self, ⊕-self-left}
 use Rattle.modes.proofs.Lowest.{Less, Lowest, lowest-less, lowest-small}
-use Rattle.products.specs.Lists.{Each, Pairwise}
+use Rattle.lent.specs.Every.{Every, none, more, Pairwise, nothing, beside}
+use Rattle.lent.proofs.Every.{every-implies, every-append, pairwise-append}
 use Rattle.products.specs.Product.{choices}
 use Rattle.products.proofs.Sums.{Part, part-later, part-more, added}
 
@@ -58,50 +59,35 @@ length-map f (x ∷ l) = ap suc (length-map f l)
 
 -- ---- each is a part of B, and no two are the same
 
-module _ {A : Type 0} where
-  each-append : (P : A → Type 0) (l m : List A) → Each P l → Each P m → Each P (l ++ m)
-  each-append P [] m h k = k
-  each-append P (x ∷ l) m h k = (h .0, each-append P l m (h .1) k)
-
-  pub each-map : (P Q : A → Type 0) (l : List A) → ((x : A) → P x → Q x) → Each P l → Each Q l
-  each-map P Q [] f h = tt
-  each-map P Q (x ∷ l) f h = (f x (h .0), each-map P Q l f (h .1))
-
-  pairwise-append : (P Q : A → Type 0) (R : A → A → Type 0) → ((x y : A) → P x → Q y → R x y) → (l m : List A)
-      → Pairwise R l → Pairwise R m → Each P l → Each Q m → Pairwise R (l ++ m)
-  pairwise-append P Q R f [] m hl hm p q = hm
-  pairwise-append P Q R f (x ∷ l) m hl hm p q =
-      (each-append (R x) l m (hl .0) (each-map Q (R x) m (λ y. f x y (p .0)) q), pairwise-append P Q R f l m (hl .1) hm (p .1) q)
-
-pub choices-parts : (n p : ℕ) (B : Modes) (S : ℕ) → p + n ≡ 64 → Part p B S → Each (Part 64 B) (choices n p B S)
+pub choices-parts : (n p : ℕ) (B : Modes) (S : ℕ) → p + n ≡ 64 → Part p B S → Every (Part 64 B) (choices n p B S)
 unfolding choices
-choices-parts zero p B S e h = (subst (λ (k : ℕ). Part k B S) (sym (add-zero p) ∙ e) h, tt)
+choices-parts zero p B S e h = more (subst (λ (k : ℕ). Part k B S) (sym (add-zero p) ∙ e) h) none
 choices-parts (suc n) p B S e h = go (λ S h. choices-parts n (suc p) B S (omega arith) h) (B p) refl
   where
-    go : ((S : ℕ) → Part (suc p) B S → Each (Part 64 B) (choices n (suc p) B S)) → (b : Bool) → B p ≡ b
-        → Each (Part 64 B) (cond b (choices n (suc p) B S ++ choices n (suc p) B (bitXor S (2 ^ p))) (choices n (suc p) B S))
-    go rec true q = each-append (Part 64 B) (choices n (suc p) B S) (choices n (suc p) B (bitXor S (2 ^ p))) (rec S (part-later h)) (rec (bitXor S (2 ^ p)) (part-more h (omega arith) q))
+    go : ((S : ℕ) → Part (suc p) B S → Every (Part 64 B) (choices n (suc p) B S)) → (b : Bool) → B p ≡ b
+        → Every (Part 64 B) (cond b (choices n (suc p) B S ++ choices n (suc p) B (bitXor S (2 ^ p))) (choices n (suc p) B S))
+    go rec true q = every-append (choices n (suc p) B S) (choices n (suc p) B (bitXor S (2 ^ p))) (rec S (part-later h)) (rec (bitXor S (2 ^ p)) (part-more h (omega arith) q))
     go rec false q = rec S (part-later h)
 
 -- the modes below p are those of S
-choices-below : (n p : ℕ) (B : Modes) (S i : ℕ) → i < p → Each (λ T. bit T i ≡ bit S i) (choices n p B S)
+choices-below : (n p : ℕ) (B : Modes) (S i : ℕ) → i < p → Every (λ T. bit T i ≡ bit S i) (choices n p B S)
 unfolding choices
-choices-below zero p B S i l = (refl, tt)
+choices-below zero p B S i l = more refl none
 choices-below (suc n) p B S i l = go (B p) (λ S. choices-below n (suc p) B S i (omega arith))
   where
     same : bit (bitXor S (2 ^ p)) i ≡ bit S i
     same = added S p i ∙ ap (λ (x : Bool). bit S i ⊕ x) (ne-eqb i p (λ e. omega arith)) ∙ ⊕-false (bit S i)
 
-    go : (b : Bool) → ((S : ℕ) → Each (λ T. bit T i ≡ bit S i) (choices n (suc p) B S))
-        → Each (λ T. bit T i ≡ bit S i) (cond b (choices n (suc p) B S ++ choices n (suc p) B (bitXor S (2 ^ p))) (choices n (suc p) B S))
+    go : (b : Bool) → ((S : ℕ) → Every (λ T. bit T i ≡ bit S i) (choices n (suc p) B S))
+        → Every (λ T. bit T i ≡ bit S i) (cond b (choices n (suc p) B S ++ choices n (suc p) B (bitXor S (2 ^ p))) (choices n (suc p) B S))
     go true rec =
-        each-append (λ T. bit T i ≡ bit S i) (choices n (suc p) B S) (choices n (suc p) B (bitXor S (2 ^ p))) (rec S)
-        (each-map (λ T. bit T i ≡ bit (bitXor S (2 ^ p)) i) (λ T. bit T i ≡ bit S i) (choices n (suc p) B (bitXor S (2 ^ p))) (λ T e. e ∙ same) (rec (bitXor S (2 ^ p))))
+        every-append (choices n (suc p) B S) (choices n (suc p) B (bitXor S (2 ^ p))) (rec S)
+        (every-implies (choices n (suc p) B (bitXor S (2 ^ p))) (λ T e. e ∙ same) (rec (bitXor S (2 ^ p))))
     go false rec = rec S
 
 pub choices-differ : (n p : ℕ) (B : Modes) (S : ℕ) → Pairwise (λ T U. T ≡ U → ⊥) (choices n p B S)
 unfolding choices
-choices-differ zero p B S = (tt, tt)
+choices-differ zero p B S = beside none nothing
 choices-differ (suc n) p B S = go (B p) (λ S. choices-differ n (suc p) B S)
   where
     other : (x : Bool) → x ⊕ true ≡ x → ⊥

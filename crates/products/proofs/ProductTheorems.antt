@@ -1,7 +1,7 @@
 -- Theorems on one product, stated of the bytes that `mul_cmpnts` leaves: its rows act as R and then L, there are 2^b of them, and no two have the same words.
 use mathlib.Core.Path.{_≡_, refl, sym, ap, ap₂, _∙_, subst}
 use mathlib.Core.Bool.{Bool, true, false, not, cond, _&&_, _||_}
-use mathlib.Core.List.{List, [], _∷_, _++_, map}
+use mathlib.Core.List.{List, [], _++_, map}
 use Prim.Native.Nat.{ℕ, _-_, _*_, _^_, _<_}
 use native.Mathlib.Omega.{arith}
 use native.Mathlib.Nat.{le-trans, le-of-eq, lt-of-le-of-lt}
@@ -14,47 +14,26 @@ use Rattle.modes.specs.Words.{bit}
 use Rattle.modes.specs.Counts.{count}
 use Rattle.modes.specs.Answers.{refusal}
 use Rattle.modes.specs.declared.Written.{Written}
-use Rattle.modes.specs.declared.Term.{Term}
 use Rattle.modes.proofs.Bools.{of-same, at5}
 use Rattle.modes.proofs.Digits.{bit-and, bit-none, ext}
 use Rattle.lent.specs.Bytes.{zeros}
-use Rattle.lent.specs.Every.{Every, none, more}
+use Rattle.lent.specs.Every.{Every, none, Pairwise, nothing}
+use Rattle.lent.proofs.Every.{every-map, pairwise-map}
 use Rattle.lent.specs.Rows.{rowsBytes, rowsAt, Fit}
 use Rattle.lent.specs.Outputs.{Output, refusedOutput, filledOutput, Gives}
 use Rattle.lent.proofs.RowLaws.{rows-at}
 use Rattle.lent.proofs.SignedNumbers.{abs-fits}
 use Rattle.products.specs.PhaseRule.{went, term}
 use Rattle.products.specs.Operators.{signed, adds, element}
-use Rattle.products.specs.Lists.{Each, Pairwise}
 use Rattle.products.specs.Product.{branch, Other, choices, notEmpty, branching, creAt, minusAt, rowTimes, rowsTimes, noRoom, multiplied}
 use Rattle.products.proofs.Sums.{Part}
 use Rattle.products.proofs.ProductActs.{imp, mp, creD, bit-cre, product-acts}
-use Rattle.products.proofs.Choices.{each-map, choices-parts, choices-differ}
+use Rattle.products.proofs.Choices.{choices-parts, choices-differ}
 use Rattle.products.proofs.Walks.{abs-signed}
 use Rattle.products.proofs.Multiplied.{rows-none, rows-number}
 
--- ---- from sets of modes to rows
-
-every-map : (P : Term → Type 0) (f : ℕ → Term) (l : List ℕ) → Each (λ S. P (f S)) l → Every P (map f l)
-every-map P f [] h = none
-every-map P f (S ∷ l) h = more (h .0) (every-map P f l (h .1))
-
-each-over : (P : ℕ → Type 0) (Q : Term → Type 0) (f : ℕ → Term) (l : List ℕ) → ((S : ℕ) → P S → Q (f S)) → Each P l → Each Q (map f l)
-each-over P Q f [] g h = tt
-each-over P Q f (S ∷ l) g h = (g S (h .0), each-over P Q f l g (h .1))
-
--- entries that differ go to rows that differ, where the map keeps apart the sets that have P
-pairwise-over : (P : ℕ → Type 0) (R : ℕ → ℕ → Type 0) (Q : Term → Term → Type 0) (f : ℕ → Term) → ((S T : ℕ) → P S → P T → R S T → Q (f S) (f T)) → (l : List ℕ)
-    → Each P l → Pairwise R l → Pairwise Q (map f l)
-pairwise-over P R Q f g [] p r = tt
-pairwise-over P R Q f g (S ∷ l) p r = (heads l (p .1) (r .0), pairwise-over P R Q f g l (p .1) (r .1))
-  where
-    heads : (m : List ℕ) → Each P m → Each (R S) m → Each (Q (f S)) (map f m)
-    heads [] q s = tt
-    heads (T ∷ m) q s = (g S T (p .0) (q .0) (s .0), heads m (q .1) (s .1))
-
 module _ (Lc La Rc Ra : ℕ) where
-  parts : Each (Part 64 (branching Lc La Rc Ra)) (choices 64 0 (branching Lc La Rc Ra) 0)
+  parts : Every (Part 64 (branching Lc La Rc Ra)) (choices 64 0 (branching Lc La Rc Ra) 0)
   parts = choices-parts 64 0 (branching Lc La Rc Ra) 0 refl
       (record { inside = λ i. ap (λ (x : Bool). not x || branching Lc La Rc Ra i) (bit-none i); above = λ i l. bit-none i; small = lit< tt })
 
@@ -80,9 +59,9 @@ module _ (Lc La Rc Ra : ℕ) where
     where
       go : (b : Bool) → Pairwise Other (cond b (map (rowTimes Lc La Rc Ra z) (choices 64 0 (branching Lc La Rc Ra) 0)) [])
       go true =
-          pairwise-over (Part 64 (branching Lc La Rc Ra)) (λ S T. S ≡ T → ⊥) Other (rowTimes Lc La Rc Ra z) (other-rows z) (choices 64 0 (branching Lc La Rc Ra) 0)
+          pairwise-map (Part 64 (branching Lc La Rc Ra)) (λ S T. S ≡ T → ⊥) Other (rowTimes Lc La Rc Ra z) (other-rows z) (choices 64 0 (branching Lc La Rc Ra) 0)
           parts (choices-differ 64 0 (branching Lc La Rc Ra) 0)
-      go false = tt
+      go false = nothing
 
   -- ---- a row holds only modes that the four words hold
 
@@ -107,7 +86,7 @@ module _ (Lc La Rc Ra : ℕ) where
     rows-within z = go (notEmpty Lc La Rc Ra)
       where
         go : (b : Bool) → Every (λ t. (t .ann < 2 ^ m) × (t .cre < 2 ^ m)) (cond b (map (rowTimes Lc La Rc Ra z) (choices 64 0 (branching Lc La Rc Ra) 0)) [])
-        go true = every-map (λ t. (t .ann < 2 ^ m) × (t .cre < 2 ^ m)) (rowTimes Lc La Rc Ra z) (choices 64 0 (branching Lc La Rc Ra) 0) (each-map (Part 64 (branching Lc La Rc Ra)) (λ S. ((rowTimes Lc La Rc Ra z S) .ann < 2 ^ m) × ((rowTimes Lc La Rc Ra z S) .cre < 2 ^ m)) (choices 64 0 (branching Lc La Rc Ra) 0) (row-within z) parts)
+        go true = every-map (rowTimes Lc La Rc Ra z) (choices 64 0 (branching Lc La Rc Ra) 0) (row-within z) parts
         go false = none
 
   -- ---- the rows that the output holds
@@ -123,7 +102,7 @@ module _ (Lc La Rc Ra : ℕ) where
     rows-fit z l = go (notEmpty Lc La Rc Ra)
       where
         go : (b : Bool) → Every Fit (cond b (map (rowTimes Lc La Rc Ra z) (choices 64 0 (branching Lc La Rc Ra) 0)) [])
-        go true = every-map Fit (rowTimes Lc La Rc Ra z) (choices 64 0 (branching Lc La Rc Ra) 0) (each-map (Part 64 (branching Lc La Rc Ra)) (λ S. Fit (rowTimes Lc La Rc Ra z S)) (choices 64 0 (branching Lc La Rc Ra) 0) (row-fits z l) parts)
+        go true = every-map (rowTimes Lc La Rc Ra z) (choices 64 0 (branching Lc La Rc Ra) 0) (row-fits z l) parts
         go false = none
 
     module _ (room : ℕ) (r : Written) (after : List ℕ) (gives : Gives (multiplied Lc La Rc Ra room) r after) (accepted : r .refusal .number ≡ 0) where

@@ -3,5 +3,4 @@ pub mod Operators
 pub mod Apply
 pub mod Product
 pub mod Walk
-pub mod Lists
 pub mod Fitting

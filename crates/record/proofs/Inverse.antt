@@ -17,6 +17,7 @@ use Rattle.modes.specs.declared.Term.{Term}
 use Rattle.modes.specs.Answers.{none as unrefused}
 use Rattle.lent.specs.Bytes.{wordAt}
 use Rattle.lent.specs.Every.{Every, none, more}
+use Rattle.lent.proofs.Every.{every-implies, every-both, every-map}
 use Rattle.lent.specs.Rows.{Fit}
 use Rattle.lent.proofs.NumbersAt.{num-at-below}
 use Rattle.lent.proofs.RowLaws.{term-of}
@@ -25,7 +26,7 @@ use Rattle.record.specs.Terms.{weight}
 use Rattle.record.specs.Layout.{fields, header, column, columns, bitsOf, encode, modesOf, countOf, together, termsIn, termsOf, laidOut}
 use Rattle.record.specs.Refusals.{refusalOf}
 use Rattle.record.specs.Canonical.{Inside, Canonical}
-use Rattle.record.proofs.Numbers.{Below, empty, next, length-stored, numbers-stored, stored-numbers, numbers-same}
+use Rattle.record.proofs.Numbers.{length-stored, numbers-stored, stored-numbers, numbers-same}
 use Rattle.record.proofs.Refusals.{or-second}
 use Rattle.record.proofs.Header.{Laid}
 use Rattle.record.proofs.Reading.{columnsAt, termAt, length-terms}
@@ -94,14 +95,6 @@ module _ (l : List ℕ) (small : Small l) where
 
 -- ---- what is read of the bytes of terms
 
-below-map : (b : ℕ) (f : Term → ℕ) (ts : List Term) → Every (λ t. f t < b) ts → Below b (map f ts)
-below-map b f [] none = empty
-below-map b f (t ∷ ts) (more p ps) = next p (below-map b f ts ps)
-
-every : {P Q : Term → Type 0} (ts : List Term) → ((t : Term) → P t → Q t) → Every P ts → Every Q ts
-every [] f none = none
-every (t ∷ ts) f (more p ps) = more (f t p) (every ts f ps)
-
 rejoined : (ts : List Term) → Every Fit ts → together (map (λ t. t .ann) ts) (map (λ t. t .cre) ts) (map bitsOf ts) ≡ ts
 unfolding together
 rejoined [] none = refl
@@ -127,13 +120,13 @@ module _ (m : ℕ) (ts : List Term) (modes : m < 2 ^ 32) (few : length ts ≤ 20
   abbrev n : ℕ
   n = length ts
 
-  fields-below : Below (2 ^ 32) (fields m n)
+  fields-below : Every (λ x. x < 2 ^ 32) (fields m n)
   fields-below =
-      next {x = 1} (omega arith)
-      (next modes
-      (next {x = n} (omega arith)
-      (next {x = 32} (omega arith)
-      (next {x = 32 + 8 * n} (omega arith) (next {x = 32 + 16 * n} (omega arith) (next {x = 32 + 24 * n} (omega arith) (next {x = 0} (omega arith) empty)))))))
+      more {x = 1} (omega arith)
+      (more modes
+      (more {x = n} (omega arith)
+      (more {x = 32} (omega arith)
+      (more {x = 32 + 8 * n} (omega arith) (more {x = 32 + 16 * n} (omega arith) (more {x = 32 + 24 * n} (omega arith) (more {x = 0} (omega arith) none)))))))
 
   header-read : numbers 4 (encode m ts) 0 8 ≡ fields m n
   unfolding header
@@ -152,7 +145,7 @@ module _ (m : ℕ) (ts : List Term) (modes : m < 2 ^ 32) (few : length ts ≤ 20
     column-read : (p q : List ℕ) (f : Term → ℕ) (o : ℕ) → length p ≡ o → Every (λ t. f t < 2 ^ 64) ts → numbers 8 (p ++ (column f ts ++ q)) o n ≡ map f ts
     unfolding column
     column-read p q f o e h =
-        ap (numbers 8 (p ++ (stored 8 (map f ts) ++ q)) o) (sym (length-map ts f)) ∙ numbers-stored 8 p q (map f ts) o e (below-map (2 ^ 64) f ts h)
+        ap (numbers 8 (p ++ (stored 8 (map f ts) ++ q)) o) (sym (length-map ts f)) ∙ numbers-stored 8 p q (map f ts) o e (every-map f ts (λ t k. k) h)
 
     abbrev h : List ℕ
     h = header m n
@@ -171,9 +164,9 @@ module _ (m : ℕ) (ts : List Term) (modes : m < 2 ^ 32) (few : length ts ≤ 20
     terms-read =
         ap (termsIn (encode m ts)) count-read
         ∙ rw (
-          column-read h (c ++ z) (λ t. t .ann) 32 (length-header m n) (every ts (λ t f. f .ann) fit),
-          ap (λ (l : List ℕ). numbers 8 l (32 + 8 * n) n) second ∙ column-read (h ++ a) z (λ t. t .cre) (32 + 8 * n) second-at (every ts (λ t f. f .cre) fit),
-          ap (λ (l : List ℕ). numbers 8 l (32 + 16 * n) n) third ∙ column-read (h ++ (a ++ c)) [] bitsOf (32 + 16 * n) third-at (every ts (λ t f. fits-ofZ (f .coeff) .fits) fit),
+          column-read h (c ++ z) (λ t. t .ann) 32 (length-header m n) (every-implies ts (λ t f. f .ann) fit),
+          ap (λ (l : List ℕ). numbers 8 l (32 + 8 * n) n) second ∙ column-read (h ++ a) z (λ t. t .cre) (32 + 8 * n) second-at (every-implies ts (λ t f. f .cre) fit),
+          ap (λ (l : List ℕ). numbers 8 l (32 + 16 * n) n) third ∙ column-read (h ++ (a ++ c)) [] bitsOf (32 + 16 * n) third-at (every-implies ts (λ t f. fits-ofZ (f .coeff) .fits) fit),
         )
         (rejoined ts fit)
       where
@@ -212,7 +205,7 @@ weight-at-least ts = go ts (weight ts) (le-refl (weight ts))
   where
     go : (us : List Term) (w : ℕ) → weight us ≤ w → Every (λ t. natAbs (t .coeff) ≤ w) us
     go [] w q = none
-    go (u ∷ us) w q = more {t = u} (omega arith) (go us w (omega arith))
+    go (u ∷ us) w q = more {x = u} (omega arith) (go us w (omega arith))
 
 -- ---- the theorems
 
@@ -222,15 +215,13 @@ module _ (m : ℕ) (ts : List Term) (k : Canonical m ts) where
 
   -- every term of a canonical form fits its bytes
   pub canonical-fit : Every Fit ts
-  canonical-fit = go ts (k .inside) (weight-at-least ts)
+  canonical-fit = every-implies ts fit (every-both ts (k .inside) (weight-at-least ts))
     where
       wide : (x : ℕ) → x < 2 ^ m → x < 2 ^ 64
       wide x h = lt-of-lt-of-le h (pow-mono (k .most))
 
-      go : (us : List Term) → Every (Inside m) us → Every (λ t. natAbs (t .coeff) ≤ weight ts) us → Every Fit us
-      go [] none none = none
-      go (u ∷ us) (more i is) (more w ws) =
-          more (record { ann = wide (u .ann) (i .ann); cre = wide (u .cre) (i .cre); coeff = small-coefficient (u .coeff) (omega (arith, k .light)) }) (go us is ws)
+      fit : (u : Term) → Inside m u × (natAbs (u .coeff) ≤ weight ts) → Fit u
+      fit u h = record { ann = wide (u .ann) (h .0 .ann); cre = wide (u .cre) (h .0 .cre); coeff = small-coefficient (u .coeff) (omega (arith, h .1, k .light)) }
 
   -- decoding what was encoded
   pub decode-modes : modesOf (encode m ts) ≡ m

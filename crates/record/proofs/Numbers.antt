@@ -15,6 +15,7 @@ use Rattle.lent.specs.Bytes.{bytes, numAt, put}
 use Rattle.lent.proofs.Numbers.{length-bytes, num-bytes}
 use Rattle.lent.proofs.NumbersAt.{num-at, bytes-at}
 use Rattle.lent.proofs.Puts.{put-join}
+use Rattle.lent.specs.Every.{Every, none, more}
 use Rattle.record.specs.Numbers.{stored, numbers, sameNumbers}
 
 pub length-stored : (w : ℕ) (xs : List ℕ) → length (stored w xs) ≡ w * length xs
@@ -64,17 +65,12 @@ unfolding stored
 put-each w l o xs h =
     ap (λ (z : List ℕ). putEach w z o xs) (sym (put-none l o)) ∙ put-after w l o [] xs o h (rw (mul-zero w, add-zero o))
 
--- every number is below b
-pub data Below (b : ℕ) : List ℕ → Type 0 where
-  empty : Below b []
-  next : {x : ℕ} {xs : List ℕ} → x < b → Below b xs → Below b (x ∷ xs)
-
 -- numbers that fit are read back
-pub numbers-stored : (w : ℕ) (p q xs : List ℕ) (o : ℕ) → length p ≡ o → Below (256 ^ w) xs
+pub numbers-stored : (w : ℕ) (p q xs : List ℕ) (o : ℕ) → length p ≡ o → Every (λ x. x < 256 ^ w) xs
     → numbers w (p ++ (stored w xs ++ q)) o (length xs) ≡ xs
 unfolding numbers stored
-numbers-stored w p q [] o e empty = refl
-numbers-stored w p q (x ∷ xs) o e (next h hs) =
+numbers-stored w p q [] o e none = refl
+numbers-stored w p q (x ∷ xs) o e (more h hs) =
     let first : p ++ ((bytes w x ++ stored w xs) ++ q) ≡ p ++ (bytes w x ++ (stored w xs ++ q)) = simp append-assoc in
     let rest : p ++ ((bytes w x ++ stored w xs) ++ q) ≡ (p ++ bytes w x) ++ (stored w xs ++ q) = simp append-assoc in
     let far : length (p ++ bytes w x) ≡ o + w = simp (length-append, length-bytes, e) in

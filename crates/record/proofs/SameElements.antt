@@ -21,6 +21,7 @@ use Rattle.modes.proofs.Sets.{each-all, each-at}
 use Rattle.modes.proofs.Digits.{lt-or-ge, bit-above, ext}
 use Rattle.modes.proofs.Counts.{count-le}
 use Rattle.lent.specs.Every.{Every, none, more}
+use Rattle.lent.proofs.Every.{every-implies}
 use Rattle.products.specs.PhaseRule.{gone, went}
 use Rattle.products.specs.Operators.{signed, adds, part, element}
 use Rattle.products.specs.Product.{signOf}
@@ -240,9 +241,7 @@ none-outside m c a (t ∷ ts) (more h hs) n = go (eqb (t .ann) a && eqb (t .cre)
     go false e ih = +ℤ-idl (coeffOf c a ts) ∙ ih
 
 inside-wide : (m : ℕ) (ts : List Term) → m ≤ 64 → Every (Inside m) ts → Every Wide ts
-inside-wide m [] h none = none
-inside-wide m (t ∷ ts) h (more i is) =
-    more (lt-of-lt-of-le (i .cre) (pow-mono h), lt-of-lt-of-le (i .ann) (pow-mono h)) (inside-wide m ts h is)
+inside-wide m ts h = every-implies ts (λ t i. (lt-of-lt-of-le (i .cre) (pow-mono h), lt-of-lt-of-le (i .ann) (pow-mono h)))
 
 module _ (m : ℕ) (ts us : List Term) (kt : Canonical m ts) (ku : Canonical m us) where
   -- one coefficient at all words with fewer than n annihilations: the same terms with fewer than n
