@@ -2,9 +2,9 @@
 use mathlib.Core.Path.{_≡_, refl, sym, ap, _∙_}
 use mathlib.Core.Bool.{Bool, true, false, cond, true≢false}
 use mathlib.Core.List.{List, [], _∷_, map}
-use Prim.Native.Nat.{ℕ, zero, suc, _+_, _^_, _≤_}
+use Prim.Native.Nat.{ℕ, suc, _+_, _^_, _≤_}
 use native.Mathlib.Omega.{arith}
-use lib.IntN.{ℤ, pos, negsuc, natAbs, negℤ-negℤ, _+ℤ_, +ℤ-assoc, +ℤ-comm}
+use lib.IntN.{ℤ, natAbs, negℤ-negℤ, _+ℤ_, +ℤ-assoc, +ℤ-comm}
 use lib.ListN.{length}
 use Rattle.modes.specs.declared.Term.{Term}
 use Rattle.modes.specs.Counts.{parity, pairs}
@@ -12,6 +12,7 @@ use Rattle.lent.specs.Every.{Every, none, more}
 use Rattle.lent.proofs.Every.{every-implies, every-all}
 use Rattle.lent.proofs.RowLaws.{term-of}
 use Rattle.products.specs.Operators.{signed}
+use Rattle.products.proofs.Signs.{abs-signed}
 use Rattle.modes.specs.Sums.{sumOf}
 use Rattle.modes.proofs.Sums.{sum-map}
 use Rattle.record.specs.Terms.{before, Ascending, empty, above, weight}
@@ -25,19 +26,13 @@ use Rattle.adjoint.specs.Adjoint.{oddPairs, adjointTerm, Negatable, inse
 
 -- ---- one term
 
-signed-abs : (b : Bool) (z : ℤ) → natAbs (signed b z) ≡ natAbs z
-signed-abs true (pos zero) = refl
-signed-abs true (pos (suc n)) = refl
-signed-abs true (negsuc n) = refl
-signed-abs false z = refl
-
 pub signed-twice : (b : Bool) (z : ℤ) → signed b (signed b z) ≡ z
 signed-twice true z = negℤ-negℤ z
 signed-twice false z = refl
 
 pub same-size : (t : Term) → natAbs ((adjointTerm t) .coeff) ≡ natAbs (t .coeff)
 unfolding adjointTerm
-same-size t = signed-abs (oddPairs t) (t .coeff)
+same-size t = abs-signed (oddPairs t) (t .coeff)
 
 pub same-pairs : (t : Term) → oddPairs (adjointTerm t) ≡ oddPairs t
 unfolding oddPairs adjointTerm

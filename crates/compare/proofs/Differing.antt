@@ -1,10 +1,9 @@
 -- The terms that differ, as the definition lists them and as the terms of the difference: both lists have the words at which the coefficients differ.
 use mathlib.Core.Path.{_≡_, refl, sym, ap, ap₂, _∙_}
-use mathlib.Core.Bool.{Bool, true, false, not, cond, _&&_, and-false, true≢false}
+use mathlib.Core.Bool.{Bool, true, false, not, cond, _&&_, true≢false}
 use mathlib.Core.List.{List, [], _∷_, _++_, map}
 use mathlib.Core.Logic.{_⊎_, inl, inr}
 use Prim.Native.Nat.{ℕ}
-use native.Mathlib.Omega.{arith}
 use lib.Dec.{eqb}
 use lib.IntN.{ℤ, pos, natAbs, _+ℤ_, _-ℤ_, +ℤ-idl, +ℤ-invr, -ℤ-+ℤ-cancel}
 use borrow.Author.Tests.{eq-eqb, ne-eqb, eqb-true, eqb-false}
@@ -13,9 +12,9 @@ use Rattle.modes.specs.declared.Term.{Term}
 use Rattle.modes.proofs.Bools.{and-l, and-r}
 use Rattle.lent.specs.Every.{Every, none, more}
 use Rattle.lent.proofs.Every.{every-implies, every-both}
-use Rattle.record.specs.Terms.{before, Above, Ascending, empty, above}
-use Rattle.record.specs.Coefficients.{coeffIn, coeffOf}
-use Rattle.record.proofs.Order.{Order, lower, level, order}
+use Rattle.record.specs.Terms.{Above, Ascending, empty, above}
+use Rattle.record.specs.Coefficients.{coeffOf}
+use Rattle.record.proofs.Coefficients.{earlier-words}
 use Rattle.record.proofs.Accepted.{abs-zero}
 use Rattle.record.proofs.Coefficients.{own-coeff}
 use Rattle.lincomb.specs.Normal.{dropZeros}
@@ -116,14 +115,6 @@ module _ (ts us : List Term) where
 
 -- ---- the terms of the difference
 
--- a term after another has other words
-later-words : (t u : Term) → before t u ≡ true → coeffIn (u .cre) (u .ann) t ≡ pos 0
-later-words t u e = go (order t u e)
-  where
-    go : Order t u → coeffIn (u .cre) (u .ann) t ≡ pos 0
-    go (lower h) = rw (ne-eqb (t .ann) (u .ann) (λ q. omega arith))
-    go (level q h) = rw (ne-eqb (t .cre) (u .cre) (λ p. omega arith), and-false (eqb (t .ann) (u .ann)))
-
 -- in an ascending list the coefficient at a term's words is the term's
 own-coeffs : (ts : List Term) → Ascending ts → Every (λ t. coeffOf (t .cre) (t .ann) ts ≡ t .coeff) ts
 unfolding sumOf
@@ -133,7 +124,7 @@ own-coeffs (t ∷ ts) (above h s) = more (own-coeff t ts h) (go ts h (own-coeffs
     go : (us : List Term) → Above t us → Every (λ u. coeffOf (u .cre) (u .ann) ts ≡ u .coeff) us → Every (λ u. coeffOf (u .cre) (u .ann) (t ∷ ts) ≡ u .coeff) us
     go [] none none = none
     go (u ∷ us) (more b bs) (more e es) =
-        more (ap (λ (z : ℤ). z +ℤ coeffOf (u .cre) (u .ann) ts) (later-words t u b) ∙ +ℤ-idl (coeffOf (u .cre) (u .ann) ts) ∙ e) (go us bs es)
+        more (ap (λ (z : ℤ). z +ℤ coeffOf (u .cre) (u .ann) ts) (earlier-words t u b) ∙ +ℤ-idl (coeffOf (u .cre) (u .ann) ts) ∙ e) (go us bs es)
 
 module _ (ts us : List Term) (s : Ascending ts) (r : Ascending us) where
   abbrev difference : List Term

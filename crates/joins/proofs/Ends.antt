@@ -1,18 +1,16 @@
 -- Lists of terms with one term more at the end.
 use mathlib.Core.Path.{_≡_, refl}
-use mathlib.Core.Bool.{true, and-false}
+use mathlib.Core.Bool.{true}
 use mathlib.Core.List.{List, [], _∷_, _++_}
-use native.Mathlib.Omega.{arith}
-use lib.Dec.{eqb}
 use lib.IntN.{pos}
-use borrow.Author.Tests.{ne-eqb}
 use Rattle.modes.specs.Sums.{sumOf}
 use Rattle.modes.specs.declared.Term.{Term}
 use Rattle.lent.specs.Every.{Every, none, more}
 use Rattle.lent.proofs.Every.{every-last}
 use Rattle.record.specs.Terms.{before, Ascending, empty, above}
-use Rattle.record.specs.Coefficients.{coeffIn, coeffOf}
-use Rattle.record.proofs.Order.{Order, lower, level, order, before-trans}
+use Rattle.record.specs.Coefficients.{coeffOf}
+use Rattle.record.proofs.Order.{before-trans}
+use Rattle.record.proofs.Coefficients.{earlier-words}
 
 -- every term of ts stands before x
 abbrev pub Under : Term → List Term → Type 0
@@ -31,13 +29,6 @@ pub under-same : (ts : List Term) (x y : Term) → x .ann ≡ y .ann → x .cre 
 unfolding before
 under-same [] x y p q none = none
 under-same (t ∷ ts) x y p q (more b u) = more (rw (p, q) at b) (under-same ts x y p q u)
-
-earlier-words : (t x : Term) → before t x ≡ true → coeffIn (x .cre) (x .ann) t ≡ pos 0
-earlier-words t x e = go (order t x e)
-  where
-    go : Order t x → coeffIn (x .cre) (x .ann) t ≡ pos 0
-    go (lower h) = rw (ne-eqb (t .ann) (x .ann) (λ q. omega arith))
-    go (level q h) = rw (ne-eqb (t .cre) (x .cre) (λ p. omega arith), and-false (eqb (t .ann) (x .ann)))
 
 -- terms that stand before x have other words than x
 pub under-none : (ts : List Term) (x : Term) → Under x ts → coeffOf (x .cre) (x .ann) ts ≡ pos 0

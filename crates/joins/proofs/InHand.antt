@@ -18,7 +18,7 @@ use Rattle.lent.proofs.Every.{every-last}
 use Rattle.lent.specs.Rows.{Fit}
 use Rattle.lent.proofs.RowLaws.{term-of}
 use Rattle.rows.specs.Order.{key}
-use Rattle.rows.proofs.Choices.{less-or}
+use Rattle.modes.proofs.Digits.{lt-or-ge}
 use Rattle.rows.proofs.Keys.{key-words, key-less}
 use Rattle.record.specs.Terms.{before, Ascending, empty}
 use Rattle.record.specs.Canonical.{Nonzero}
@@ -73,7 +73,7 @@ first-in-hand x f = record {
 
 -- a row of other words that is not below x is above it
 pub comes-after : (x y : Term) → Fit x → Fit y → (y .ann ≡ x .ann → y .cre ≡ x .cre → ⊥) → key x ≤ key y → before x y ≡ true
-comes-after x y f g n h = go (less-or (key x) (key y))
+comes-after x y f g n h = go (lt-or-ge (key x) (key y))
   where
     go : (key x < key y) ⊎ (key y ≤ key x) → before x y ≡ true
     go (inl l) = by (key-less (x .ann) (x .cre) (y .ann) (y .cre) (f .cre) (g .cre) l)

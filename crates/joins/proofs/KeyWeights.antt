@@ -1,35 +1,25 @@
 -- The weight of one pair of words bounds its coefficient, of fewer rows it is no more, and it is at most the whole weight.
-use mathlib.Core.Path.{_≡_, refl}
+use mathlib.Core.Path.{_≡_}
 use mathlib.Core.Bool.{Bool, true, false, cond, _&&_}
 use mathlib.Core.List.{List, [], _∷_, _++_}
 use Prim.Native.Nat.{ℕ, zero, suc, _+_, _-_, _^_, _≤_, _<_}
 use native.Mathlib.Omega.{arith}
-use borrow.Author.Tests.{ltb-true}
-use lib.Dec.{eqb, ltb}
-use lib.IntN.{ℤ, pos, negsuc, natAbs, _+ℤ_}
+use lib.Dec.{eqb}
+use lib.IntN.{ℤ, pos, natAbs}
 use Rattle.modes.specs.Sums.{sumOf}
 use Rattle.modes.specs.declared.Term.{Term}
 use Rattle.lent.specs.Rows.{rowsAt}
+use Rattle.lent.proofs.SignedNumbers.{abs-sum}
 use Rattle.record.specs.Terms.{weight}
 use Rattle.record.specs.Coefficients.{coeffIn, coeffOf}
 use Rattle.joins.specs.KeyWeights.{keyWeight, Light}
-
-sub-at : (a b : ℕ) (t : Bool) → ltb a b ≡ t → natAbs (cond t (negsuc (b - suc a)) (pos (a - b))) ≤ a + b
-sub-at a b true e = omega (arith, ltb-true a b e)
-sub-at a b false e = omega arith
-
-triangle : (x y : ℤ) → natAbs (x +ℤ y) ≤ natAbs x + natAbs y
-triangle (pos a) (pos b) = omega arith
-triangle (pos a) (negsuc b) = sub-at a (suc b) (ltb a (suc b)) refl
-triangle (negsuc a) (pos b) = let h = sub-at b (suc a) (ltb b (suc a)) refl in omega arith
-triangle (negsuc a) (negsuc b) = omega arith
 
 pub coeff-below : (cre ann : ℕ) (ts : List Term) → natAbs (coeffOf cre ann ts) ≤ keyWeight cre ann ts
 unfolding sumOf keyWeight
 coeff-below cre ann [] = omega arith
 coeff-below cre ann (t ∷ ts) =
     let g = coeff-below cre ann ts in
-    let h = triangle (coeffIn cre ann t) (coeffOf cre ann ts) in
+    let h = abs-sum (coeffIn cre ann t) (coeffOf cre ann ts) in
     omega arith
 
 pub weight-append : (cre ann : ℕ) (ts us : List Term) → keyWeight cre ann (ts ++ us) ≡ keyWeight cre ann ts + keyWeight cre ann us

@@ -5,25 +5,12 @@ use mathlib.Core.Bool.{Bool, true, false, cond, true≢false}
 use native.Mathlib.Omega.{arith}
 use native.Mathlib.Nat.{zero-add}
 use borrow.Author.Tests.{le-ltb, ltb-true}
-use lib.IntN.{ℤ, pos, negsuc, negℤ, natAbs, subℕ, _+ℤ_, _-ℤ_, _*ℤ_}
+use lib.IntN.{ℤ, pos, negsuc, negℤ, natAbs, _+ℤ_, _-ℤ_, _*ℤ_}
 use lib.Dec.{T, ltb}
 use lib.Signed.{mag, nonNeg, ltZ}
 use mir.Syntax.{w64}
 use mir.Val.{SFits, Fits, toZ, ofZ}
 use mir.Facts.{toZ-ofZ, toZ-pos}
-
-sub-at : (a b : ℕ) (t : Bool) → ltb a b ≡ t → a < 2 ^ 63 → b ≤ 2 ^ 63 → mag (cond t (negsuc (b - suc a)) (pos (a - b))) < 2 ^ 63
-sub-at a b true e h k = omega arith
-sub-at a b false e h k = omega arith
-
-sub-fits : (a b : ℕ) → a < 2 ^ 63 → b ≤ 2 ^ 63 → mag (subℕ a b) < 2 ^ 63
-sub-fits a b h k = sub-at a b (ltb a b) refl h k
-
-pub sum-fits : (x y : ℤ) → natAbs x + natAbs y < 2 ^ 63 → SFits w64 (x +ℤ y)
-sum-fits (pos a) (pos b) h = record { sfits = h }
-sum-fits (pos a) (negsuc b) h = record { sfits = sub-fits a (suc b) (omega arith) (omega arith) }
-sum-fits (negsuc a) (pos b) h = record { sfits = sub-fits b (suc a) (omega arith) (omega arith) }
-sum-fits (negsuc a) (negsuc b) h = record { sfits = omega arith }
 
 pub neg-fits : (x : ℤ) → natAbs x < 2 ^ 63 → SFits w64 (negℤ x)
 neg-fits (pos zero) h = record { sfits = h }
@@ -101,6 +88,9 @@ abs-sum (pos a) (pos b) = omega arith
 abs-sum (pos a) (negsuc b) = difference-at a (suc b) (ltb a (suc b)) refl
 abs-sum (negsuc a) (pos b) = let h = difference-at b (suc a) (ltb b (suc a)) refl in omega arith
 abs-sum (negsuc a) (negsuc b) = omega arith
+
+pub sum-fits : (x y : ℤ) → natAbs x + natAbs y < 2 ^ 63 → SFits w64 (x +ℤ y)
+sum-fits x y h = abs-fits (x +ℤ y) (omega (arith, abs-sum x y))
 
 -- a product is as far from zero as its factors say
 abs-neg : (n : ℕ) → natAbs (negℤ (pos n)) ≡ n

@@ -2,9 +2,9 @@
 use mathlib.Core.Path.{_≡_, refl, sym, ap, ap₂, _∙_}
 use mathlib.Core.Bool.{Bool, true, false, cond, true≢false}
 use mathlib.Core.List.{List, [], _∷_, _++_, map}
-use Prim.Native.Nat.{ℕ, zero, suc, _+_, _^_, _≤_, _<_}
+use Prim.Native.Nat.{ℕ, _+_, _^_, _≤_, _<_}
 use native.Mathlib.Omega.{arith}
-use lib.IntN.{ℤ, pos, negsuc, natAbs}
+use lib.IntN.{natAbs}
 use lib.ListN.{drop}
 use Rattle.modes.specs.declared.Term.{Term}
 use Rattle.modes.proofs.Sums.{sum-append}
@@ -13,7 +13,7 @@ use Rattle.record.specs.Terms.{before, Above, Ascending, empty, above}
 use Rattle.record.specs.Layout.{termsIn}
 use Rattle.record.specs.Reading.{At}
 use Rattle.record.proofs.Order.{Compared, less, same, greater, compare, above-trans}
-use Rattle.products.specs.Operators.{signed}
+use Rattle.products.proofs.Signs.{abs-signed}
 use Rattle.record.specs.Coefficients.{coeffIn}
 use Rattle.record.proofs.Reading.{none-left}
 use Rattle.record.proofs.Weights.{weight-at}
@@ -143,12 +143,6 @@ module _ (minus : Bool) (a : List ℕ) (na i : ℕ) (b : List ℕ) (nb j : ℕ) 
 -- a coefficient read from a sound record is small, with either sign
 pub small-read : (l : List ℕ) (n i : ℕ) (t : Term) → Sound l n → At (termsIn l n) i t → natAbs (t .coeff) ≤ 2 ^ 60
 small-read l n i t s e = omega (arith, s .light, weight-at (termsIn l n) i t e)
-
-abs-signed : (minus : Bool) (z : ℤ) → natAbs (signed minus z) ≡ natAbs z
-abs-signed true (pos zero) = refl
-abs-signed true (pos (suc n)) = refl
-abs-signed true (negsuc n) = refl
-abs-signed false z = refl
 
 pub small-turned : (minus : Bool) (t u : Term) → u ≡ turn minus t → natAbs (t .coeff) ≤ 2 ^ 60 → natAbs (u .coeff) ≤ 2 ^ 60
 small-turned minus t u e h = omega (arith, ap (λ (x : Term). natAbs (x .coeff)) e, abs-signed minus (t .coeff))

@@ -4,13 +4,15 @@ use mathlib.Core.Bool.{Bool, true, false, cond, _&&_, true≢false}
 use mathlib.Core.List.{List, [], _∷_, map}
 use Prim.Native.Nat.{ℕ}
 use lib.Dec.{eqb}
-use lib.IntN.{ℤ, pos, natAbs, _+ℤ_, +ℤ-idl, +ℤ-idr, +ℤ-assoc, +ℤ-comm, negℤ-+ℤ}
+use lib.IntN.{ℤ, pos, natAbs, _+ℤ_, +ℤ-idl, +ℤ-idr, +ℤ-assoc}
 use borrow.Author.Tests.{eqb-true, eq-eqb}
 use Rattle.modes.specs.Sums.{sumOf}
 use Rattle.modes.specs.declared.Term.{Term}
+use Rattle.modes.proofs.Sums.{exchange}
 use Rattle.modes.proofs.Bools.{and-l, and-r}
 use Rattle.products.specs.PhaseRule.{Outcome, gone, went, term}
 use Rattle.products.specs.Operators.{signed, adds, part, element}
+use Rattle.products.proofs.Signs.{signed-zero, signed-add}
 use Rattle.record.specs.Terms.{before}
 use Rattle.record.specs.Coefficients.{coeffIn, coeffOf}
 use Rattle.record.proofs.Order.{Compared, less, same, greater, compare}
@@ -18,9 +20,6 @@ use Rattle.record.proofs.Accepted.{abs-zero}
 use Rattle.lincomb.specs.Normal.{alike, join, insert, collect, dropZeros, normal}
 use Rattle.lincomb.specs.Sums.{turn}
 use Rattle.lincomb.specs.Merging.{merge}
-
-swap : (x y z : ℤ) → x +ℤ (y +ℤ z) ≡ y +ℤ (x +ℤ z)
-swap x y z = sym (+ℤ-assoc x y z) ∙ ap (λ (w : ℤ). w +ℤ z) (+ℤ-comm x y) ∙ +ℤ-assoc y x z
 
 -- terms of which neither stands before the other are alike
 pub alike-where-level : (t u : Term) → before t u ≡ false → before u t ≡ false → alike t u ≡ true
@@ -46,7 +45,7 @@ module _ (f : Term → ℤ) (additive : Additive f) where
           → sumOf f (cond a (join t u ∷ ts) (cond b (t ∷ u ∷ ts) (u ∷ insert t ts))) ≡ f t +ℤ (f u +ℤ sumOf f ts)
       go ih true b e = ap (λ (x : ℤ). x +ℤ sumOf f ts) (additive .like t u e) ∙ +ℤ-assoc (f t) (f u) (sumOf f ts)
       go ih false true e = refl
-      go ih false false e = ap (λ (x : ℤ). f u +ℤ x) ih ∙ swap (f u) (f t) (sumOf f ts)
+      go ih false false e = ap (λ (x : ℤ). f u +ℤ x) ih ∙ exchange (f u) (f t) (sumOf f ts)
 
   pub sum-collect : (ts : List Term) → sumOf f (collect ts) ≡ sumOf f ts
   unfolding sumOf collect
@@ -77,21 +76,13 @@ module _ (f : Term → ℤ) (additive : Additive f) where
           → sumOf f c ≡ sumOf f ts +ℤ sumOf f us → (x y : Bool) → before t u ≡ x → before u t ≡ y
           → sumOf f (cond x (t ∷ a) (cond y (u ∷ b) (join t u ∷ c))) ≡ (f t +ℤ sumOf f ts) +ℤ (f u +ℤ sumOf f us)
       go a b c p q s true y e h = ap (λ (z : ℤ). f t +ℤ z) p ∙ sym (+ℤ-assoc (f t) (sumOf f ts) (f u +ℤ sumOf f us))
-      go a b c p q s false true e h = ap (λ (z : ℤ). f u +ℤ z) q ∙ swap (f u) (f t +ℤ sumOf f ts) (sumOf f us)
+      go a b c p q s false true e h = ap (λ (z : ℤ). f u +ℤ z) q ∙ exchange (f u) (f t +ℤ sumOf f ts) (sumOf f us)
       go a b c p q s false false e h =
           ap (λ (z : ℤ). z +ℤ sumOf f c) (additive .like t u (alike-where-level t u e h)) ∙ ap (λ (z : ℤ). (f t +ℤ f u) +ℤ z) s
-          ∙ +ℤ-assoc (f t) (f u) (sumOf f ts +ℤ sumOf f us) ∙ ap (λ (z : ℤ). f t +ℤ z) (swap (f u) (sumOf f ts) (sumOf f us))
+          ∙ +ℤ-assoc (f t) (f u) (sumOf f ts +ℤ sumOf f us) ∙ ap (λ (z : ℤ). f t +ℤ z) (exchange (f u) (sumOf f ts) (sumOf f us))
           ∙ sym (+ℤ-assoc (f t) (sumOf f ts) (f u +ℤ sumOf f us))
 
 -- ---- signs
-
-pub signed-zero : (s : Bool) → signed s (pos 0) ≡ pos 0
-signed-zero true = refl
-signed-zero false = refl
-
-pub signed-add : (s : Bool) (x y : ℤ) → signed s (x +ℤ y) ≡ signed s x +ℤ signed s y
-signed-add true x y = negℤ-+ℤ x y
-signed-add false x y = refl
 
 signed-twice : (s r : Bool) (z : ℤ) → signed s (signed r z) ≡ signed r (signed s z)
 signed-twice true true z = refl

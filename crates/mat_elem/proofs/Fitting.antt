@@ -17,7 +17,7 @@ use Rattle.modes.specs.declared.Term.{Term}
 use Rattle.lent.proofs.SignedNumbers.{abs-sum, abs-fits}
 use Rattle.products.specs.PhaseRule.{Outcome, gone, went, term}
 use Rattle.products.specs.Operators.{signed, adds, part, element}
-use Rattle.products.proofs.Walks.{abs-signed}
+use Rattle.products.proofs.Signs.{abs-signed}
 use Rattle.record.specs.Terms.{weight}
 use Rattle.record.specs.Layout.{modesOf, termsOf}
 use Rattle.record.specs.Refusals.{refusalOf}

@@ -1,8 +1,22 @@
--- Sums over lists: over two in turn, and over what a function makes of each.
+-- Sums: of a few numbers, over two lists in turn, and over what a function makes of each entry.
 use mathlib.Core.Path.{_≡_, refl, sym, ap, _∙_}
 use mathlib.Core.List.{List, [], _∷_, _++_, map}
-use lib.IntN.{ℤ, _+ℤ_, +ℤ-assoc, +ℤ-idl, +ℤ-idr}
+use lib.IntN.{ℤ, negℤ, _+ℤ_, +ℤ-assoc, +ℤ-comm, +ℤ-idl, +ℤ-idr, +ℤ-invl}
 use Rattle.modes.specs.Sums.{sumOf}
+
+-- ---- of two or three numbers
+
+pub exchange : (x y z : ℤ) → x +ℤ (y +ℤ z) ≡ y +ℤ (x +ℤ z)
+exchange x y z = sym (+ℤ-assoc x y z) ∙ ap (λ (w : ℤ). w +ℤ z) (+ℤ-comm x y) ∙ +ℤ-assoc y x z
+
+pub cancel : (x y z : ℤ) → x +ℤ y ≡ x +ℤ z → y ≡ z
+cancel x y z e =
+    sym (undo y) ∙ ap (λ (w : ℤ). negℤ x +ℤ w) e ∙ undo z
+  where
+    undo : (w : ℤ) → negℤ x +ℤ (x +ℤ w) ≡ w
+    undo w = sym (+ℤ-assoc (negℤ x) x w) ∙ ap (λ (v : ℤ). v +ℤ w) (+ℤ-invl x) ∙ +ℤ-idl w
+
+-- ---- over lists
 
 pub sum-cons : {A : Type 0} (w : A → ℤ) (x : A) (l : List A) → sumOf w (x ∷ l) ≡ w x +ℤ sumOf w l
 unfolding sumOf

@@ -13,7 +13,8 @@ use Rattle.products.specs.Operators.{signed, adds, part, element}
 use Rattle.products.specs.Product.{rowsTimes}
 use Rattle.products.proofs.ProductActs.{product-acts}
 use Rattle.record.specs.Canonical.{Inside}
-use Rattle.lincomb.proofs.Totals.{adds-signed, signed-add, signed-zero}
+use Rattle.products.proofs.Signs.{signed-add, signed-zero}
+use Rattle.lincomb.proofs.Totals.{adds-signed}
 use Rattle.pairs.specs.Products.{pairRows, rowsWith, allRows, pairInTurn, withInTurn, inTurn}
 
 -- (w + x) + (y + z) by its first and its second parts

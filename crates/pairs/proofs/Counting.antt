@@ -17,7 +17,7 @@ use Rattle.products.specs.Operators.{signed}
 use Rattle.products.specs.Product.{Other, choices, notEmpty, branching, minusAt, rowTimes, rowsTimes}
 use Rattle.products.proofs.Multiplied.{rows-none, rows-number}
 use Rattle.products.proofs.ProductTheorems.{rows-differ}
-use Rattle.products.proofs.Walks.{abs-signed}
+use Rattle.products.proofs.Signs.{abs-signed}
 use Rattle.record.specs.Terms.{weight}
 use Rattle.joins.specs.KeyWeights.{keyWeight, Light}
 use Rattle.joins.proofs.KeyWeights.{weight-append}

@@ -14,7 +14,7 @@ use Rattle.modes.specs.declared.Term.{Term}
 use Rattle.lent.proofs.SignedNumbers.{abs-fits, abs-product}
 use Rattle.products.specs.Operators.{signed}
 use Rattle.products.specs.Product.{rowsTimes}
-use Rattle.products.proofs.Walks.{abs-signed}
+use Rattle.products.proofs.Signs.{abs-signed}
 use Rattle.record.specs.Terms.{weight}
 use Rattle.record.specs.Reading.{At}
 use Rattle.record.proofs.Weights.{weight-at}

@@ -29,7 +29,7 @@ use Rattle.products.specs.Product.{branch, Other, choices, notEmpty, bra
 use Rattle.products.proofs.Sums.{Part}
 use Rattle.products.proofs.ProductActs.{imp, mp, creD, bit-cre, product-acts}
 use Rattle.products.proofs.Choices.{choices-parts, choices-differ}
-use Rattle.products.proofs.Walks.{abs-signed}
+use Rattle.products.proofs.Signs.{abs-signed}
 use Rattle.products.proofs.Multiplied.{rows-none, rows-number}
 
 module _ (Lc La Rc Ra : ℕ) where

@@ -1,8 +1,8 @@
--- The sign of one term after another, by bilinearity.
+-- Signs of numbers; and the sign of one term after another, by bilinearity.
 use mathlib.Core.Path.{_≡_, refl}
 use mathlib.Core.Bool.{Bool, true, false}
-use Prim.Native.Nat.{ℕ}
-use lib.IntN.{ℤ, pos, negℤ-negℤ}
+use Prim.Native.Nat.{ℕ, zero, suc}
+use lib.IntN.{ℤ, pos, negsuc, natAbs, _+ℤ_, negℤ-negℤ, negℤ-+ℤ}
 use Rattle.modes.specs.Bools.{_⊕_}
 use Rattle.modes.specs.Words.{Modes, _△_}
 use Rattle.modes.specs.Counts.{oddExchanges}
@@ -13,6 +13,17 @@ use Rattle.products.specs.Operators.{signed}
 pub signed-zero : (s : Bool) → signed s (pos 0) ≡ pos 0
 signed-zero true = refl
 signed-zero false = refl
+
+pub signed-add : (s : Bool) (x y : ℤ) → signed s (x +ℤ y) ≡ signed s x +ℤ signed s y
+signed-add true x y = negℤ-+ℤ x y
+signed-add false x y = refl
+
+-- a sign does not change how far a number is from zero
+pub abs-signed : (s : Bool) (z : ℤ) → natAbs (signed s z) ≡ natAbs z
+abs-signed true (pos zero) = refl
+abs-signed true (pos (suc n)) = refl
+abs-signed true (negsuc n) = refl
+abs-signed false z = refl
 
 pub signed-signed : (s t : Bool) (z : ℤ) → signed s (signed t z) ≡ signed (s ⊕ t) z
 unfolding _⊕_

@@ -1,12 +1,11 @@
 -- The walk, a mode at a time: how many rows it has, and where their bytes stand.
 use mathlib.Core.Path.{_≡_, refl, sym, ap, ap₂, _∙_}
-use mathlib.Core.Bool.{Bool, true, false}
+use mathlib.Core.Bool.{Bool}
 use mathlib.Core.List.{List, append-nil}
 use Prim.Native.Nat.{ℕ, zero, suc, _+_, _-_, _*_, _^_, _≤_, _<_}
 use native.Mathlib.Nat.{pow-suc}
 use native.Mathlib.Omega.{arith}
 use lib.Bits.{bitAnd, bitXor}
-use lib.IntN.{ℤ, pos, negsuc, natAbs}
 use lib.ListN.{length, length-append}
 use Rattle.modes.specs.Bools.{_⊕_}
 use Rattle.modes.specs.Words.{bit}
@@ -19,15 +18,7 @@ use Rattle.lent.specs.Bytes.{put}
 use Rattle.lent.specs.Rows.{rowBytes, rowsBytes}
 use Rattle.lent.proofs.Puts.{put-join}
 use Rattle.lent.proofs.RowLaws.{length-rows, rows-append}
-use Rattle.products.specs.Operators.{signed}
 use Rattle.products.specs.Walk.{One, keeping, walk}
-
--- a sign does not change how far a number is from zero
-pub abs-signed : (s : Bool) (z : ℤ) → natAbs (signed s z) ≡ natAbs z
-abs-signed true (pos zero) = refl
-abs-signed true (pos (suc n)) = refl
-abs-signed true (negsuc n) = refl
-abs-signed false z = refl
 
 -- the modes that `keep` passes: x the creations after the mode, y the annihilations before it
 pub kept-sign : (c a w x y : ℕ) → odd 64 (bit x) ≡ oddExchanges 64 (bit w) (bit c) → odd 64 (bit y) ≡ oddExchanges 64 (bit a) (bit w)

@@ -5,10 +5,10 @@ use mathlib.Core.List.{List, [], _∷_}
 use Prim.Native.Nat.{ℕ}
 use native.Mathlib.Omega.{arith}
 use lib.Dec.{eqb}
-use lib.IntN.{ℤ, pos, negℤ, _+ℤ_, +ℤ-idl, +ℤ-idr, +ℤ-assoc, +ℤ-invl}
+use lib.IntN.{ℤ, pos, _+ℤ_, +ℤ-idr}
 use borrow.Author.Tests.{eq-eqb, ne-eqb}
 use Rattle.modes.specs.Sums.{sumOf}
-use Rattle.modes.proofs.Sums.{sum-cons}
+use Rattle.modes.proofs.Sums.{cancel, sum-cons}
 use Rattle.modes.specs.declared.Term.{Term}
 use Rattle.lent.specs.Every.{Every, none, more}
 use Rattle.lent.proofs.RowLaws.{term-of}
@@ -29,6 +29,14 @@ other-words t u e = go (order t u e)
     go (lower h) = rw (ne-eqb (u .ann) (t .ann) (λ q. omega arith))
     go (level q h) = rw (ne-eqb (u .cre) (t .cre) (λ p. omega arith), and-false (eqb (u .ann) (t .ann)))
 
+-- and so has the one after it
+pub earlier-words : (t x : Term) → before t x ≡ true → coeffIn (x .cre) (x .ann) t ≡ pos 0
+earlier-words t x e = go (order t x e)
+  where
+    go : Order t x → coeffIn (x .cre) (x .ann) t ≡ pos 0
+    go (lower h) = rw (ne-eqb (t .ann) (x .ann) (λ q. omega arith))
+    go (level q h) = rw (ne-eqb (t .cre) (x .cre) (λ p. omega arith), and-false (eqb (t .ann) (x .ann)))
+
 pub above-none : (t : Term) (ts : List Term) → Above t ts → coeffOf (t .cre) (t .ann) ts ≡ pos 0
 unfolding sumOf
 above-none t [] none = refl
@@ -37,13 +45,6 @@ above-none t (u ∷ ts) (more h a) = rw (other-words t u h, above-none t ts a)
 pub own-coeff : (t : Term) (ts : List Term) → Above t ts → coeffOf (t .cre) (t .ann) (t ∷ ts) ≡ t .coeff
 unfolding sumOf
 own-coeff t ts h = rw (eq-eqb (t .ann) (t .ann) refl, eq-eqb (t .cre) (t .cre) refl, above-none t ts h) (+ℤ-idr (t .coeff))
-
-pub cancel : (x y z : ℤ) → x +ℤ y ≡ x +ℤ z → y ≡ z
-cancel x y z e =
-    sym (undo y) ∙ ap (λ (w : ℤ). negℤ x +ℤ w) e ∙ undo z
-  where
-    undo : (w : ℤ) → negℤ x +ℤ (x +ℤ w) ≡ w
-    undo w = sym (+ℤ-assoc (negℤ x) x w) ∙ ap (λ (v : ℤ). v +ℤ w) (+ℤ-invl x) ∙ +ℤ-idl w
 
 -- the first term of an ascending list is nowhere in one that starts above it
 clash : (t : Term) (ts us : List Term) → Above t ts → Nonzero t → Above t us → coeffOf (t .cre) (t .ann) (t ∷ ts) ≡ coeffOf (t .cre) (t .ann) us → ⊥

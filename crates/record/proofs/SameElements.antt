@@ -9,13 +9,14 @@ use native.Mathlib.Omega.{arith}
 use lib.Pow.{pow-mono}
 use lib.Dec.{eqb, ltb}
 use lib.Bits.{bitXor, xor-self, xor-zero-l}
-use lib.IntN.{ℤ, pos, negℤ, _+ℤ_, +ℤ-idl, +ℤ-assoc, +ℤ-comm, negℤ-+ℤ, negℤ-negℤ}
+use lib.IntN.{ℤ, pos, negℤ, _+ℤ_, +ℤ-idl, +ℤ-assoc, negℤ-negℤ}
 use borrow.Author.Tests.{ne-eqb, eq-eqb, lt-ltb, eqb-true, ltb-true, ltb-false}
 use Rattle.modes.specs.Bools.{_⊕_}
 use Rattle.modes.specs.Words.{Modes, bit}
 use Rattle.modes.specs.Counts.{count}
 use Rattle.modes.specs.Sums.{sumOf}
 use Rattle.modes.specs.declared.Term.{Term}
+use Rattle.modes.proofs.Sums.{exchange, cancel}
 use Rattle.modes.proofs.Bools.{⊕-false, false-⊕, ⊕-self, and-l, and-r}
 use Rattle.modes.proofs.Sets.{each-all, each-at}
 use Rattle.modes.proofs.Digits.{lt-or-ge, bit-above, ext}
@@ -24,33 +25,23 @@ use Rattle.lent.specs.Every.{Every, none, more}
 use Rattle.lent.proofs.Every.{every-implies}
 use Rattle.products.specs.PhaseRule.{gone, went}
 use Rattle.products.specs.Operators.{signed, adds, part, element}
+use Rattle.products.proofs.Signs.{signed-zero, signed-add}
 use Rattle.products.specs.Product.{signOf}
 use Rattle.products.proofs.ClosedForm.{fit, acts, acts-is, term-is}
 use Rattle.record.specs.Terms.{before, Ascending, empty, above}
 use Rattle.record.specs.Figures.{annihilations}
 use Rattle.record.specs.Coefficients.{coeffIn, coeffOf}
 use Rattle.record.specs.Canonical.{Inside, Nonzero, Canonical}
-use Rattle.record.proofs.Coefficients.{cancel, same-terms}
+use Rattle.record.proofs.Coefficients.{same-terms}
 
 -- the terms with fewer than n annihilations
 unfoldable pub fewer : ℕ → List Term → List Term
 fewer n [] = []
 fewer n (t ∷ ts) = cond (ltb (annihilations t) n) (t ∷ fewer n ts) (fewer n ts)
 
-signed-zero : (s : Bool) → signed s (pos 0) ≡ pos 0
-signed-zero true = refl
-signed-zero false = refl
-
-signed-add : (s : Bool) (x y : ℤ) → signed s (x +ℤ y) ≡ signed s x +ℤ signed s y
-signed-add true x y = negℤ-+ℤ x y
-signed-add false x y = refl
-
 unsign : (s : Bool) (y z : ℤ) → signed s y ≡ signed s z → y ≡ z
 unsign true y z e = sym (negℤ-negℤ y) ∙ ap negℤ e ∙ negℤ-negℤ z
 unsign false y z e = e
-
-exchange : (x y z : ℤ) → x +ℤ (y +ℤ z) ≡ y +ℤ (x +ℤ z)
-exchange x y z = sym (+ℤ-assoc x y z) ∙ ap (λ (w : ℤ). w +ℤ z) (+ℤ-comm x y) ∙ +ℤ-assoc y x z
 
 -- ---- a part of a set that is as large as the set is the set
 

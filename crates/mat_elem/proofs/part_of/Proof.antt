@@ -7,7 +7,7 @@ use mir.Syntax.{w64}
 use mir.Val.{SFits, toZ, ofZ}
 use Rattle.lent.proofs.SignedNumbers.{abs-fits}
 use Rattle.products.specs.Operators.{signed}
-use Rattle.products.proofs.Walks.{abs-signed}
+use Rattle.products.proofs.Signs.{abs-signed}
 use Rattle.mat_elem.proofs.Summing.{part-zero, part-other, part-here}
 use borrow.Author.Needs.{needs}
 use Rattle.mat_elem.proofs.part_of.Statement.{statement}

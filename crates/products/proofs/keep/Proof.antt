@@ -9,7 +9,8 @@ use Rattle.lent.proofs.SignedNumbers.{abs-fits}
 use Rattle.lent.proofs.RowLaws.{term-of}
 use Rattle.products.specs.Operators.{signed}
 use Rattle.products.specs.Walk.{keeping}
-use Rattle.products.proofs.Walks.{abs-signed, kept-sign}
+use Rattle.products.proofs.Signs.{abs-signed}
+use Rattle.products.proofs.Walks.{kept-sign}
 use borrow.Author.Needs.{needs}
 use Rattle.products.proofs.keep.Statement.{statement}
 use Rattle.products.proofs.keep.Tie as tie
