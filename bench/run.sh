@@ -14,3 +14,5 @@ for program in add commutator matrix float; do
     echo "== $program"
     "$root/oracle/build/unchanged/target/release/bench_$program" "$library"
 done
+echo "== the sort, on an order made against it"
+python3 "$root/bench/against_sort.py"
