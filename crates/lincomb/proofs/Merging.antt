@@ -3,6 +3,7 @@ use mathlib.Core.Path.{_≡_, refl, sym, ap, ap₂, _∙_}
 use mathlib.Core.Bool.{Bool, true, false, cond, true≢false}
 use mathlib.Core.List.{List, [], _∷_, _++_, map}
 use Prim.Native.Nat.{ℕ, _+_, _^_, _≤_, _<_}
+use native.Mathlib.Nat.{add-zero}
 use native.Mathlib.Omega.{arith}
 use lib.IntN.{natAbs}
 use lib.ListN.{drop}
@@ -12,14 +13,14 @@ use Rattle.lent.specs.Every.{Every, none, more}
 use Rattle.record.specs.Terms.{before, Above, Ascending, empty, above}
 use Rattle.record.specs.Layout.{termsIn}
 use Rattle.record.specs.Reading.{At}
-use Rattle.record.proofs.Order.{Compared, less, same, greater, compare, above-trans}
+use Rattle.record.proofs.Order.{Compared, less, same, greater, compare, above-trans, before-one-way}
 use Rattle.products.proofs.Signs.{abs-signed}
 use Rattle.record.specs.Coefficients.{coeffIn}
 use Rattle.record.proofs.Reading.{none-left}
 use Rattle.record.proofs.Weights.{weight-at}
 use Rattle.lincomb.specs.Normal.{join, dropZeros, normal}
 use Rattle.lincomb.specs.Sums.{turn}
-use Rattle.lincomb.specs.Merging.{merge, Sound, onward, Pulled}
+use Rattle.lincomb.specs.Merging.{merge, Sound, onward, taken, Pulled}
 use Rattle.lincomb.proofs.Totals.{coeff-drop, coeff-merge}
 use Rattle.lincomb.proofs.Normal.{Joins, above-joins, ascending-drop, nonzero-drop, normal-is}
 
@@ -94,6 +95,13 @@ module _ (t u : Term) (ts us : List Term) where
   unfolding merge
   merge-level e f = rw (e, f)
 
+other-way : (t u : Term) → before t u ≡ true → before u t ≡ false
+other-way t u e = go (before u t) refl
+  where
+    go : (x : Bool) → before u t ≡ x → x ≡ false
+    go true f = absurd (before-one-way t u e f)
+    go false f = refl
+
 module _ (minus : Bool) (a : List ℕ) (na i : ℕ) (b : List ℕ) (nb j : ℕ) where
   abbrev rest : ℕ → List Term
   rest k = map (turn minus) (drop k (termsIn b nb))
@@ -101,7 +109,14 @@ module _ (minus : Bool) (a : List ℕ) (na i : ℕ) (b : List ℕ) (nb j : ℕ) 
   pub only-left : (t : Term) → i < na → nb ≤ j → j ≤ nb → At (termsIn a na) i t → Pulled minus a na i b nb j (record { term = t; left = i + 1; right = j })
   only-left t h k k' e =
       let none : rest j ≡ [] = ap (map (turn minus)) (none-left b nb j k) in
-      record { front = ap₂ merge e none ∙ merge-left t _ ∙ ap (λ (us : List Term). t ∷ merge (drop (i + 1) (termsIn a na)) us) (sym none); left-in = omega arith; right-in = k'; on = omega arith }
+      record {
+        front = ap₂ merge e none ∙ merge-left t _ ∙ ap (λ (us : List Term). t ∷ merge (drop (i + 1) (termsIn a na)) us) (sym none);
+        left = ap (λ (k : ℕ). i + k) (sym (ap₂ taken e none));
+        right = sym (ap (λ (k : ℕ). j + k) (ap₂ taken none e) ∙ add-zero j);
+        left-in = omega arith;
+        right-in = k';
+        on = omega arith;
+      }
 
   module _ (u v : Term) (k : j < nb) (e : At (termsIn b nb) j v) (eu : u ≡ turn minus v) where
     next-right : rest j ≡ u ∷ rest (j + 1)
@@ -110,13 +125,29 @@ module _ (minus : Bool) (a : List ℕ) (na i : ℕ) (b : List ℕ) (nb j : ℕ) 
     pub only-right : na ≤ i → i ≤ na → Pulled minus a na i b nb j (record { term = u; left = i; right = j + 1 })
     only-right h h' =
         let none : drop i (termsIn a na) ≡ [] = none-left a na i h in
-        record { front = ap₂ merge none next-right ∙ merge-right u _ ∙ ap (λ (ts : List Term). u ∷ merge ts (rest (j + 1))) (sym none); left-in = h'; right-in = omega arith; on = omega arith }
+        record {
+          front = ap₂ merge none next-right ∙ merge-right u _ ∙ ap (λ (ts : List Term). u ∷ merge ts (rest (j + 1))) (sym none);
+          left = sym (ap (λ (k : ℕ). i + k) (ap₂ taken none next-right) ∙ add-zero i);
+          right = ap (λ (k : ℕ). j + k) (sym (ap₂ taken next-right none));
+          left-in = h';
+          right-in = omega arith;
+          on = omega arith;
+        }
 
     module _ (t : Term) (h : i < na) (f : At (termsIn a na) i t) where
+      -- what is taken of each, by the order of the two terms
+      of-left : (x : Bool) → before u t ≡ x → i + cond x 0 1 ≡ i + taken (drop i (termsIn a na)) (rest j)
+      of-left x e = ap (λ (k : ℕ). i + k) (sym (ap₂ taken f next-right ∙ ap (λ (y : Bool). cond y 0 1) e))
+
+      of-right : (x : Bool) → before t u ≡ x → j + cond x 0 1 ≡ j + taken (rest j) (drop i (termsIn a na))
+      of-right x e = ap (λ (k : ℕ). j + k) (sym (ap₂ taken next-right f ∙ ap (λ (y : Bool). cond y 0 1) e))
+
       pub step-less : before t u ≡ true → Pulled minus a na i b nb j (record { term = t; left = i + 1; right = j })
       step-less p =
           record {
             front = ap₂ merge f next-right ∙ merge-less t u _ _ p ∙ ap (λ (us : List Term). t ∷ merge (drop (i + 1) (termsIn a na)) us) (sym next-right);
+            left = of-left false (other-way t u p);
+            right = sym (add-zero j) ∙ of-right true p;
             left-in = omega arith;
             right-in = omega arith;
             on = omega arith;
@@ -126,6 +157,8 @@ module _ (minus : Bool) (a : List ℕ) (na i : ℕ) (b : List ℕ) (nb j : ℕ) 
       step-greater p q =
           record {
             front = ap₂ merge f next-right ∙ merge-greater t u _ _ p q ∙ ap (λ (ts : List Term). u ∷ merge ts (rest (j + 1))) (sym f);
+            left = sym (add-zero i) ∙ of-left true q;
+            right = of-right false p;
             left-in = omega arith;
             right-in = omega arith;
             on = omega arith;
@@ -135,6 +168,8 @@ module _ (minus : Bool) (a : List ℕ) (na i : ℕ) (b : List ℕ) (nb j : ℕ) 
       step-level w e p q =
           record {
             front = ap₂ merge f next-right ∙ merge-level t u _ _ p q ∙ ap (λ (x : Term). x ∷ onward minus a na b nb (i + 1) (j + 1)) (sym e);
+            left = of-left false q;
+            right = of-right false p;
             left-in = omega arith;
             right-in = omega arith;
             on = omega arith;

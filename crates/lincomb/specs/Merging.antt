@@ -30,9 +30,17 @@ pub record Sound (l : List ℕ) (n : ℕ) : Type 0 where
 abbrev pub onward : Bool → List ℕ → ℕ → List ℕ → ℕ → ℕ → ℕ → List Term
 onward minus a na b nb i j = merge (drop i (termsIn a na)) (map (turn minus) (drop j (termsIn b nb)))
 
+-- 1 where the first of ts is the next term or a part of it, and 0 where it is not, or there is none
+abbrev pub taken : List Term → List Term → ℕ
+taken [] us = 0
+taken (t ∷ ts) [] = 1
+taken (t ∷ ts) (u ∷ us) = cond (before u t) 0 1
+
 -- one step: the next term of these, and where each record goes on
 pub record Pulled (minus : Bool) (a : List ℕ) (na i : ℕ) (b : List ℕ) (nb j : ℕ) (s : Step) : Type 0 where
   pub front : onward minus a na b nb i j ≡ s .term ∷ onward minus a na b nb (s .left) (s .right)
+  pub left : s .left ≡ i + taken (drop i (termsIn a na)) (map (turn minus) (drop j (termsIn b nb)))
+  pub right : s .right ≡ j + taken (map (turn minus) (drop j (termsIn b nb))) (drop i (termsIn a na))
   pub left-in : s .left ≤ na
   pub right-in : s .right ≤ nb
   pub on : i + j < s .left + s .right
