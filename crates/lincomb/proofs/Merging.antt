@@ -102,6 +102,11 @@ other-way t u e = go (before u t) refl
     go true f = absurd (before-one-way t u e f)
     go false f = refl
 
+-- the next term of the second record, with its sign
+pub next-right : (minus : Bool) (b : List ℕ) (nb j : ℕ) (u v : Term) → At (termsIn b nb) j v → u ≡ turn minus v
+    → map (turn minus) (drop j (termsIn b nb)) ≡ u ∷ map (turn minus) (drop (j + 1) (termsIn b nb))
+next-right minus b nb j u v e eu = ap (map (turn minus)) e ∙ ap (λ (x : Term). x ∷ map (turn minus) (drop (j + 1) (termsIn b nb))) (sym eu)
+
 module _ (minus : Bool) (a : List ℕ) (na i : ℕ) (b : List ℕ) (nb j : ℕ) where
   abbrev rest : ℕ → List Term
   rest k = map (turn minus) (drop k (termsIn b nb))
@@ -118,62 +123,65 @@ module _ (minus : Bool) (a : List ℕ) (na i : ℕ) (b : List ℕ) (nb j : ℕ) 
         on = omega arith;
       }
 
-  module _ (u v : Term) (k : j < nb) (e : At (termsIn b nb) j v) (eu : u ≡ turn minus v) where
-    next-right : rest j ≡ u ∷ rest (j + 1)
-    next-right = ap (map (turn minus)) e ∙ ap (λ (x : Term). x ∷ rest (j + 1)) (sym eu)
+  pub only-right : (u : Term) → j < nb → rest j ≡ u ∷ rest (j + 1) → na ≤ i → i ≤ na → Pulled minus a na i b nb j (record { term = u; left = i; right = j + 1 })
+  only-right u k e h h' =
+      let none : drop i (termsIn a na) ≡ [] = none-left a na i h in
+      record {
+        front = ap₂ merge none e ∙ merge-right u _ ∙ ap (λ (ts : List Term). u ∷ merge ts (rest (j + 1))) (sym none);
+        left = sym (ap (λ (k : ℕ). i + k) (ap₂ taken none e) ∙ add-zero i);
+        right = ap (λ (k : ℕ). j + k) (sym (ap₂ taken e none));
+        left-in = h';
+        right-in = omega arith;
+        on = omega arith;
+      }
 
-    pub only-right : na ≤ i → i ≤ na → Pulled minus a na i b nb j (record { term = u; left = i; right = j + 1 })
-    only-right h h' =
-        let none : drop i (termsIn a na) ≡ [] = none-left a na i h in
+  -- t is the next term of the first record, and u of the second, with its sign
+  pub record Heads (t u : Term) : Type 0 where
+    pub left-there : i < na
+    pub right-there : j < nb
+    pub left : At (termsIn a na) i t
+    pub right : rest j ≡ u ∷ rest (j + 1)
+
+  module _ {t u : Term} (p : Heads t u) where
+    -- what is taken of each, by the order of the two terms
+    of-left : (x : Bool) → before u t ≡ x → i + cond x 0 1 ≡ i + taken (drop i (termsIn a na)) (rest j)
+    of-left x e = ap (λ (k : ℕ). i + k) (sym (ap₂ taken (p .left) (p .right) ∙ ap (λ (y : Bool). cond y 0 1) e))
+
+    of-right : (x : Bool) → before t u ≡ x → j + cond x 0 1 ≡ j + taken (rest j) (drop i (termsIn a na))
+    of-right x e = ap (λ (k : ℕ). j + k) (sym (ap₂ taken (p .right) (p .left) ∙ ap (λ (y : Bool). cond y 0 1) e))
+
+    pub step-less : before t u ≡ true → Pulled minus a na i b nb j (record { term = t; left = i + 1; right = j })
+    step-less e =
         record {
-          front = ap₂ merge none next-right ∙ merge-right u _ ∙ ap (λ (ts : List Term). u ∷ merge ts (rest (j + 1))) (sym none);
-          left = sym (ap (λ (k : ℕ). i + k) (ap₂ taken none next-right) ∙ add-zero i);
-          right = ap (λ (k : ℕ). j + k) (sym (ap₂ taken next-right none));
-          left-in = h';
-          right-in = omega arith;
+          front = ap₂ merge (p .left) (p .right) ∙ merge-less t u _ _ e ∙ ap (λ (us : List Term). t ∷ merge (drop (i + 1) (termsIn a na)) us) (sym (p .right));
+          left = of-left false (other-way t u e);
+          right = sym (add-zero j) ∙ of-right true e;
+          left-in = omega (arith, p .left-there);
+          right-in = omega (arith, p .right-there);
           on = omega arith;
         }
 
-    module _ (t : Term) (h : i < na) (f : At (termsIn a na) i t) where
-      -- what is taken of each, by the order of the two terms
-      of-left : (x : Bool) → before u t ≡ x → i + cond x 0 1 ≡ i + taken (drop i (termsIn a na)) (rest j)
-      of-left x e = ap (λ (k : ℕ). i + k) (sym (ap₂ taken f next-right ∙ ap (λ (y : Bool). cond y 0 1) e))
+    pub step-greater : before t u ≡ false → before u t ≡ true → Pulled minus a na i b nb j (record { term = u; left = i; right = j + 1 })
+    step-greater e f =
+        record {
+          front = ap₂ merge (p .left) (p .right) ∙ merge-greater t u _ _ e f ∙ ap (λ (ts : List Term). u ∷ merge ts (rest (j + 1))) (sym (p .left));
+          left = sym (add-zero i) ∙ of-left true f;
+          right = of-right false e;
+          left-in = omega (arith, p .left-there);
+          right-in = omega (arith, p .right-there);
+          on = omega arith;
+        }
 
-      of-right : (x : Bool) → before t u ≡ x → j + cond x 0 1 ≡ j + taken (rest j) (drop i (termsIn a na))
-      of-right x e = ap (λ (k : ℕ). j + k) (sym (ap₂ taken next-right f ∙ ap (λ (y : Bool). cond y 0 1) e))
-
-      pub step-less : before t u ≡ true → Pulled minus a na i b nb j (record { term = t; left = i + 1; right = j })
-      step-less p =
-          record {
-            front = ap₂ merge f next-right ∙ merge-less t u _ _ p ∙ ap (λ (us : List Term). t ∷ merge (drop (i + 1) (termsIn a na)) us) (sym next-right);
-            left = of-left false (other-way t u p);
-            right = sym (add-zero j) ∙ of-right true p;
-            left-in = omega arith;
-            right-in = omega arith;
-            on = omega arith;
-          }
-
-      pub step-greater : before t u ≡ false → before u t ≡ true → Pulled minus a na i b nb j (record { term = u; left = i; right = j + 1 })
-      step-greater p q =
-          record {
-            front = ap₂ merge f next-right ∙ merge-greater t u _ _ p q ∙ ap (λ (ts : List Term). u ∷ merge ts (rest (j + 1))) (sym f);
-            left = sym (add-zero i) ∙ of-left true q;
-            right = of-right false p;
-            left-in = omega arith;
-            right-in = omega arith;
-            on = omega arith;
-          }
-
-      pub step-level : (w : Term) → w ≡ join t u → before t u ≡ false → before u t ≡ false → Pulled minus a na i b nb j (record { term = w; left = i + 1; right = j + 1 })
-      step-level w e p q =
-          record {
-            front = ap₂ merge f next-right ∙ merge-level t u _ _ p q ∙ ap (λ (x : Term). x ∷ onward minus a na b nb (i + 1) (j + 1)) (sym e);
-            left = of-left false q;
-            right = of-right false p;
-            left-in = omega arith;
-            right-in = omega arith;
-            on = omega arith;
-          }
+    pub step-level : (w : Term) → w ≡ join t u → before t u ≡ false → before u t ≡ false → Pulled minus a na i b nb j (record { term = w; left = i + 1; right = j + 1 })
+    step-level w is e f =
+        record {
+          front = ap₂ merge (p .left) (p .right) ∙ merge-level t u _ _ e f ∙ ap (λ (x : Term). x ∷ onward minus a na b nb (i + 1) (j + 1)) (sym is);
+          left = of-left false f;
+          right = of-right false e;
+          left-in = omega (arith, p .left-there);
+          right-in = omega (arith, p .right-there);
+          on = omega arith;
+        }
 
 -- a coefficient read from a sound record is small, with either sign
 pub small-read : (l : List ℕ) (n i : ℕ) (t : Term) → Sound l n → At (termsIn l n) i t → natAbs (t .coeff) ≤ 2 ^ 60
