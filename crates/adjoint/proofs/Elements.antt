@@ -17,7 +17,7 @@ use Rattle.lent.proofs.Every.{every-implies}
 use Rattle.lent.specs.Rows.{Fit}
 use Rattle.products.specs.PhaseRule.{Outcome, gone, went, term}
 use Rattle.products.specs.Operators.{signed, adds, part, element}
-use Rattle.products.specs.Apply.{resultOf}
+use Rattle.products.specs.Apply.{applyResultOf}
 use Rattle.products.specs.declared.ApplyResult.the-variants.{Applied}
 use Rattle.products.proofs.Applying.{swapped-restores}
 use Rattle.adjoint.specs.Adjoint.{oddPairs, adjointTerm, adjointTerms}
@@ -25,7 +25,7 @@ use Rattle.adjoint.proofs.Terms.{sum-adjoint, sum-same}
 
 -- ---- the swapped term restores the ket
 
-outcome-of : (o : Outcome) (w : ℕ) (s : Sign) → resultOf o ≡ Applied w s → o ≡ went w (s .0)
+outcome-of : (o : Outcome) (w : ℕ) (s : Sign) → applyResultOf o ≡ Applied w s → o ≡ went w (s .0)
 outcome-of gone w s e = let z : _≡_ {A = ℕ} 0 1 = cc in absurd (omega arith)
 outcome-of (went v r) w s e =
     let x : v ≡ w = cc in let y : record { 0 = r } ≡ s = cc in ap₂ went x (ap (λ (q : Sign). q .0) y)
@@ -34,12 +34,12 @@ back : (t : Term) → Fit t → (ket w : ℕ) (s : Bool) → term (t .cre) (t .a
     → term (t .ann) (t .cre) (went w false) ≡ went ket (s ⊕ oddPairs t)
 unfolding oddPairs
 back t f ket w s e =
-    outcome-of _ ket _ (swapped-restores (t .cre) (t .ann) ket (f .cre) (f .ann) w (record { 0 = s }) (ap resultOf e))
+    outcome-of _ ket _ (swapped-restores (t .cre) (t .ann) ket (f .cre) (f .ann) w (record { 0 = s }) (ap applyResultOf e))
 
 back-adjoint : (t : Term) → Fit t → (ket w : ℕ) (s : Bool) → term (t .ann) (t .cre) (went ket false) ≡ went w s
     → term (t .cre) (t .ann) (went w false) ≡ went ket (s ⊕ parity (pairs (count 64 (bit (t .ann))) + pairs (count 64 (bit (t .cre)))))
 back-adjoint t f ket w s e =
-    outcome-of _ ket _ (swapped-restores (t .ann) (t .cre) ket (f .ann) (f .cre) w (record { 0 = s }) (ap resultOf e))
+    outcome-of _ ket _ (swapped-restores (t .ann) (t .cre) ket (f .ann) (f .cre) w (record { 0 = s }) (ap applyResultOf e))
 
 -- ---- one term
 

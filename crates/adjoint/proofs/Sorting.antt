@@ -18,8 +18,7 @@ use Rattle.lent.specs.Rows.{Fit}
 use Rattle.lent.proofs.SignedNumbers.{abs-fits}
 use Rattle.lent.proofs.Puts.{length-put, put-join}
 use Rattle.rows.specs.Terms.{at, upTo}
-use Rattle.rows.specs.Places.{columnPlaces, termIn}
-use Rattle.rows.specs.Places as places
+use Rattle.rows.specs.Places.{columnPlaces, termIn, termsPlaced}
 use Rattle.rows.specs.Order.{key, Distinct}
 use Rattle.modes.specs.Sums.{sumOf}
 use Rattle.rows.specs.Sorted.{Sorted}
@@ -47,7 +46,7 @@ up-to-take f ts (suc n) h =
     ap (λ (us : List Term). us ++ (f n ∷ [])) (up-to-take f ts n (λ i b. h i (omega arith)))
     ∙ sym (take-one-more ts _ (f n) n (h n (omega arith))) ∙ ap (λ (k : ℕ). take k ts) (add-one n)
 
-pub at-columns : (l : List ℕ) (n : ℕ) → places.termsIn (columnPlaces n) l n ≡ termsIn l n
+pub at-columns : (l : List ℕ) (n : ℕ) → termsPlaced (columnPlaces n) l n ≡ termsIn l n
 unfolding termIn
 at-columns l n = up-to-take (termIn (columnPlaces n) l) (termsIn l n) n (term-at l n) ∙ take-all n (termsIn l n) (omega (arith, length-terms l n))
 

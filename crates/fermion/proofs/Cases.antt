@@ -7,7 +7,7 @@ use Rattle.modes.specs.Counts.{count, odd, oddExchanges}
 use Rattle.modes.specs.Sums.{sumOf}
 use Rattle.lent.specs.Bytes.{bytes, num, numAt}
 use Rattle.products.specs.PhaseRule.{went, term, ladders, ladder}
-use Rattle.products.specs.Apply.{resultOf}
+use Rattle.products.specs.Apply.{applyResultOf}
 use Rattle.products.specs.Product.{choices, rowsTimes}
 use Rattle.products.proofs.ClosedForm.{term-none}
 use Rattle.record.specs.Numbers.{stored, numbers, sameNumbers}
@@ -40,7 +40,7 @@ cases-hold = (
               (
                 refl,
                 (
-                  (λ ket. ap resultOf (term-none (went ket false))),
+                  (λ ket. ap applyResultOf (term-none (went ket false))),
                   (refl, (refl, (refl, (refl, (refl, (refl, (refl, (refl, (refl, (refl, (refl, (refl, (refl, tt))))))))))))),
                 ),
               ),

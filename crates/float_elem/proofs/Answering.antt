@@ -16,7 +16,7 @@ use Rattle.mat_elem.specs.Refusals.{firstRefusal, wordsRefusal}
 use Rattle.float_elem.specs.Sums.{sumTo}
 use Rattle.float_elem.specs.Answers.{Told, toldBy, unless}
 use Rattle.float_elem.specs.declared.FloatElement.{FloatElement}
-use Rattle.float_elem.specs.Elements.{allFinite, listed, termRefusal, termAt, inputRefusal, sumAt, sumRefusal, summed, floatElement}
+use Rattle.float_elem.specs.Elements.{allFinite, listed, floatTermRefusal, termAt, inputRefusal, sumAt, sumRefusal, summed, floatElement}
 
 module _ (m : ℕ) (cre ann : List ℕ) (parts : List (List Float)) (bra ket : ℕ) where
   refused : (r : Refusal) → inputRefusal m cre ann parts bra ket ≡ r → (r .number ≡ 0 → ⊥) → _≡_ {A = Told} (record { refusal = r; values = [] }) (floatElement m cre ann parts bra ket)
@@ -70,7 +70,7 @@ module _ (m : ℕ) (cre ann : List ℕ) (cs : List Float) (bra ket : ℕ) where
   listed-twice = rw (and-self-left (eqb (length cs) (length cre)) true)
 
   terms-twice : firstRefusal (termAt m cre ann (cs ∷ cs ∷ [])) (length cre) ≡ firstRefusal (termAt m cre ann (cs ∷ [])) (length cre)
-  unfolding termRefusal
+  unfolding floatTermRefusal
   terms-twice =
       let same : (i : ℕ) → termAt m cre ann (cs ∷ cs ∷ []) i ≡ termAt m cre ann (cs ∷ []) i = λ i. rw (finite-twice (getD cs i nan)) in
       λ j. firstRefusal (λ i. same i j) (length cre)

@@ -17,7 +17,7 @@ use Rattle.modes.specs.declared.MadeSpace.the-variants.{Refused}
 use Rattle.modes.proofs.Bools.{and-l, and-r}
 use Rattle.record.specs.Layout.{isMade}
 use Rattle.record.specs.Refusals.{inside}
-use Rattle.float_elem.specs.Elements.{allFinite, listed, termRefusal}
+use Rattle.float_elem.specs.Elements.{allFinite, listed, floatTermRefusal}
 use Rattle.float_elem.specs.Lengths.{OneLength}
 
 -- ---- the lists
@@ -67,22 +67,22 @@ pub second-decides : (x y : Float) → finite x ≡ true → finite y ≡ allFin
 second-decides x y e = rw (e, and-true)
 
 module _ (m i cre ann : ℕ) (c : List Float) where
-  pub outside : inside m cre ann ≡ false → refusal 2 1 i ≡ termRefusal m i cre ann c
-  unfolding termRefusal
+  pub outside : inside m cre ann ≡ false → refusal 2 1 i ≡ floatTermRefusal m i cre ann c
+  unfolding floatTermRefusal
   outside e = rw e
 
   module _ (e : inside m cre ann ≡ true) where
-    pub not-finite : allFinite c ≡ false → refusal 13 1 i ≡ termRefusal m i cre ann c
-    unfolding termRefusal
+    pub not-finite : allFinite c ≡ false → refusal 13 1 i ≡ floatTermRefusal m i cre ann c
+    unfolding floatTermRefusal
     not-finite f = rw (e, f)
 
-    pub right-term : allFinite c ≡ true → none ≡ termRefusal m i cre ann c
-    unfolding termRefusal
+    pub right-term : allFinite c ≡ true → none ≡ floatTermRefusal m i cre ann c
+    unfolding floatTermRefusal
     right-term f = rw (e, f)
 
   -- a refusal without a number is none
-  pub no-number : (r : Refusal) → r ≡ termRefusal m i cre ann c → r .number ≡ 0 → termRefusal m i cre ann c ≡ none
-  unfolding termRefusal
+  pub no-number : (r : Refusal) → r ≡ floatTermRefusal m i cre ann c → r .number ≡ 0 → floatTermRefusal m i cre ann c ≡ none
+  unfolding floatTermRefusal
   no-number r e z = go (inside m cre ann) (allFinite c) (ap (λ (x : Refusal). x .number) (sym e) ∙ z)
     where
       go : (a b : Bool) → (cond a (cond b none (refusal 13 1 i)) (refusal 2 1 i)) .number ≡ 0 → cond a (cond b none (refusal 13 1 i)) (refusal 2 1 i) ≡ none

@@ -17,7 +17,7 @@ use Rattle.products.proofs.Outcomes.{outcome-gone, outcome-went}
 use Rattle.mat_elem.specs.Refusals.{firstRefusal}
 use Rattle.mat_elem.proofs.FirstRefusals.{first-starts, first-goes, first-stays}
 use Rattle.float_elem.specs.declared.Complex64.{Complex64}
-use Rattle.float_elem.specs.Sums.{plusZero, signed, added, joined, sumTo}
+use Rattle.float_elem.specs.Sums.{plusZero, signedFloat, addedFloat, joined, sumTo}
 use Rattle.float_elem.specs.Answers.{Told, unless}
 use Rattle.float_elem.specs.Elements.{allFinite, sumAt, sumRefusal, summed}
 
@@ -29,16 +29,16 @@ module _ (bra ket cre ann : ℕ) where
 
   module _ (c x : Float) where
     zero : Zero ≡ applied cre ann ket → x ≡ joined bra ket cre ann c x
-    zero e = sym (ap (added bra c x) (outcome-gone outcome e))
+    zero e = sym (ap (addedFloat bra c x) (outcome-gone outcome e))
 
-    there : (word : ℕ) (sign : Sign) → Applied word sign ≡ applied cre ann ket → joined bra ket cre ann c x ≡ added bra c x (went word (sign .0))
-    there word sign e = ap (added bra c x) (outcome-went word sign outcome e)
+    there : (word : ℕ) (sign : Sign) → Applied word sign ≡ applied cre ann ket → joined bra ket cre ann c x ≡ addedFloat bra c x (went word (sign .0))
+    there word sign e = ap (addedFloat bra c x) (outcome-went word sign outcome e)
 
     other : (word : ℕ) (sign : Sign) → Applied word sign ≡ applied cre ann ket → (word ≡ bra → ⊥) → x ≡ joined bra ket cre ann c x
     other word sign e n = sym (there word sign e ∙ rw (ne-eqb word bra n))
 
     here : (word : ℕ) (sign : Sign) → Applied word sign ≡ applied cre ann ket → word ≡ bra → (s : Bool) → sign .0 ≡ s
-        → add binary64 x (signed s c) ≡ joined bra ket cre ann c x
+        → add binary64 x (signedFloat s c) ≡ joined bra ket cre ann c x
     here word sign e h s es = sym (there word sign e ∙ rw (eq-eqb word bra h, es))
 
   -- both parts
@@ -53,7 +53,7 @@ module _ (bra ket cre ann : ℕ) where
       pub joined-other : (word ≡ bra → ⊥) → Both (x .re) (x .im)
       joined-other n = (other (c .re) (x .re) word sign e n, other (c .im) (x .im) word sign e n)
 
-      pub joined-here : word ≡ bra → (s : Bool) → sign .0 ≡ s → Both (add binary64 (x .re) (signed s (c .re))) (add binary64 (x .im) (signed s (c .im)))
+      pub joined-here : word ≡ bra → (s : Bool) → sign .0 ≡ s → Both (add binary64 (x .re) (signedFloat s (c .re))) (add binary64 (x .im) (signedFloat s (c .im)))
       joined-here h s es = (here (c .re) (x .re) word sign e h s es, here (c .im) (x .im) word sign e h s es)
 
 -- ---- the running sums

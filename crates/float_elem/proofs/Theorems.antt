@@ -24,9 +24,9 @@ use Rattle.record.proofs.Refusals.{or-second}
 use Rattle.record.proofs.Accepted.{neither}
 use Rattle.mat_elem.specs.Refusals.{firstRefusal}
 use Rattle.mat_elem.proofs.FirstRefusals.{first-starts, first-none, first-goes}
-use Rattle.float_elem.specs.Sums.{plusZero, signed, added, sumTo}
+use Rattle.float_elem.specs.Sums.{plusZero, signedFloat, addedFloat, sumTo}
 use Rattle.float_elem.specs.Answers.{Told, unless}
-use Rattle.float_elem.specs.Elements.{allFinite, termRefusal, termAt, inputRefusal, sumsTo, sumAt, sumRefusal, floatElement}
+use Rattle.float_elem.specs.Elements.{allFinite, floatTermRefusal, termAt, inputRefusal, sumsTo, sumAt, sumRefusal, floatElement}
 use Rattle.float_elem.specs.Single.{exactly, Doubles, OnlyJoins}
 use Rattle.float_elem.proofs.Exact.{one-term}
 
@@ -59,15 +59,15 @@ values-finite m cre ann parts bra ket = go (eqb (r .number) 0) refl
 
 -- ---- exactly one joining term
 
-apart : (bra : ℕ) (c x : Float) (o : Outcome) → ((t : Bool) → o ≡ went bra t → ⊥) → added bra c x o ≡ x
+apart : (bra : ℕ) (c x : Float) (o : Outcome) → ((t : Bool) → o ≡ went bra t → ⊥) → addedFloat bra c x o ≡ x
 apart bra c x gone h = refl
 apart bra c x (went w s) h = rw (ne-eqb w bra (λ e. h s (ap (λ (v : ℕ). went v s) e)))
 
-signed-fits : (s : Bool) (c : Float) → T (fits binary64 c) → T (fits binary64 (signed s c))
+signed-fits : (s : Bool) (c : Float) → T (fits binary64 c) → T (fits binary64 (signedFloat s c))
 signed-fits true c h = neg-fits binary64 c h
 signed-fits false c h = h
 
-signed-finite : (s : Bool) (c : Float) → finite c ≡ true → finite (signed s c) ≡ true
+signed-finite : (s : Bool) (c : Float) → finite c ≡ true → finite (signedFloat s c) ≡ true
 unfolding neg
 signed-finite true nan e = e
 signed-finite true (inf s) e = e
@@ -82,7 +82,7 @@ exactly-finite (fin s (suc m) d) e = refl
 
 module _ (bra ket : ℕ) (cre ann : List ℕ) (n i : ℕ) (s : Bool) (only : OnlyJoins bra ket cre ann n i s) where
   abbrev came : List Float → Float
-  came cs = exactly (signed s (getD cs i nan))
+  came cs = exactly (signedFloat s (getD cs i nan))
 
   -- one part
   module _ (cs : List Float) (doubles : Doubles cs) where
@@ -98,7 +98,7 @@ module _ (bra ket : ℕ) (cre ann : List ℕ) (n i : ℕ) (s : Bool) (only : Onl
     joining : sumTo bra ket cre ann cs (suc i) ≡ came cs
     unfolding sumTo
     joining =
-        ap (added bra (getD cs i nan) (sumTo bra ket cre ann cs i)) (only .joins) ∙ rw (before i (omega arith), eq-eqb bra bra refl) (one-term _ (signed-fits s (getD cs i nan) (doubles i)))
+        ap (addedFloat bra (getD cs i nan) (sumTo bra ket cre ann cs i)) (only .joins) ∙ rw (before i (omega arith), eq-eqb bra bra refl) (one-term _ (signed-fits s (getD cs i nan) (doubles i)))
 
     after : (d : ℕ) → suc i + d ≤ n → sumTo bra ket cre ann cs (suc i + d) ≡ came cs
     after zero l = rw (add-zero (suc i)) joining
@@ -109,7 +109,7 @@ module _ (bra ket : ℕ) (cre ann : List ℕ) (n i : ℕ) (s : Bool) (only : Onl
 
     finite-so-far : finite (getD cs i nan) ≡ true → (k : ℕ) → k ≤ n → finite (sumTo bra ket cre ann cs k) ≡ true
     finite-so-far f k h =
-        ⊎-elim (λ l. rw (from k l h) (exactly-finite (signed s (getD cs i nan)) (signed-finite s (getD cs i nan) f))) (λ l. rw (before k l)) (lt-or-ge i k)
+        ⊎-elim (λ l. rw (from k l h) (exactly-finite (signedFloat s (getD cs i nan)) (signed-finite s (getD cs i nan) f))) (λ l. rw (before k l)) (lt-or-ge i k)
 
   -- all parts
   all-so-far : (parts : List (List Float)) → Every Doubles parts → allFinite (map (λ cs. getD cs i nan) parts) ≡ true → (k : ℕ) → k ≤ n
@@ -128,8 +128,8 @@ module _ (bra ket : ℕ) (cre ann : List ℕ) (n i : ℕ) (s : Bool) (only : Onl
   all-came [] nothing = refl
   all-came (cs ∷ parts) (more d ds) = ap₂ (λ (x : Float) (xs : List Float). x ∷ xs) (from cs d n (only .inside) (omega arith)) (all-came parts ds)
 
-term-finite : (m i cre ann : ℕ) (c : List Float) → termRefusal m i cre ann c .number ≡ 0 → allFinite c ≡ true
-unfolding termRefusal
+term-finite : (m i cre ann : ℕ) (c : List Float) → floatTermRefusal m i cre ann c .number ≡ 0 → allFinite c ≡ true
+unfolding floatTermRefusal
 term-finite m i cre ann c = go (inside m cre ann)
   where
     go : (b : Bool) → (cond b (cond (allFinite c) none (refusal 13 1 i)) (refusal 2 1 i)) .number ≡ 0 → allFinite c ≡ true
@@ -139,7 +139,7 @@ term-finite m i cre ann c = go (inside m cre ann)
 -- where the inputs are not refused, one joining term is answered by its coefficient with its sign
 pub one-joining : (m : ℕ) (cre ann : List ℕ) (parts : List (List Float)) (bra ket i : ℕ) (s : Bool) → Every Doubles parts → inputRefusal m cre ann parts bra ket .number ≡ 0
     → OnlyJoins bra ket cre ann (length cre) i s
-    → _≡_ {A = Told} (floatElement m cre ann parts bra ket) (record { refusal = none; values = map (λ cs. exactly (signed s (getD cs i nan))) parts })
+    → _≡_ {A = Told} (floatElement m cre ann parts bra ket) (record { refusal = none; values = map (λ cs. exactly (signedFloat s (getD cs i nan))) parts })
 unfolding floatElement inputRefusal sumRefusal unless
 one-joining m cre ann parts bra ket i s d z only =
     let terms = neither _ _ (neither _ _ z .1) .0 in

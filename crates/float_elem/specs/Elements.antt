@@ -24,8 +24,8 @@ allLong n [] = true
 allLong n (cs ∷ parts) = eqb (length cs) n && allLong n parts
 
 -- 2 and then 13 of the term {cre|ann} at the place i, whose coefficient has the parts c
-unfoldable pub termRefusal : ℕ → ℕ → ℕ → ℕ → List Float → Refusal
-termRefusal m i cre ann c = cond (inside m cre ann) (cond (allFinite c) none (refusal 13 1 i)) (refusal 2 1 i)
+unfoldable pub floatTermRefusal : ℕ → ℕ → ℕ → ℕ → List Float → Refusal
+floatTermRefusal m i cre ann c = cond (inside m cre ann) (cond (allFinite c) none (refusal 13 1 i)) (refusal 2 1 i)
 
 -- mode count and list lengths keep the rules
 unfoldable pub listed : ℕ → List ℕ → List ℕ → List (List Float) → Bool
@@ -33,7 +33,7 @@ listed m cre ann parts = isMade (spaceOf m) && (leb (length cre) 2048 && (eqb (l
 
 -- the refusal of the i-th term
 abbrev pub termAt : ℕ → List ℕ → List ℕ → List (List Float) → ℕ → Refusal
-termAt m cre ann parts i = termRefusal m i (getD cre i 0) (getD ann i 0) (map (λ cs. getD cs i nan) parts)
+termAt m cre ann parts i = floatTermRefusal m i (getD cre i 0) (getD ann i 0) (map (λ cs. getD cs i nan) parts)
 
 -- 1; then term by term 2 and 13; then 12 of the bra and of the ket
 unfoldable pub inputRefusal : ℕ → List ℕ → List ℕ → List (List Float) → ℕ → ℕ → Refusal

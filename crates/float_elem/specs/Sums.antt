@@ -12,18 +12,18 @@ abbrev pub plusZero : Float
 plusZero = fin false 0 (pos 0)
 
 -- c, or its negation where the sign is minus
-abbrev pub signed : Bool → Float → Float
-signed true c = neg c
-signed false c = c
+abbrev pub signedFloat : Bool → Float → Float
+signedFloat true c = neg c
+signedFloat false c = c
 
 -- what the sum x becomes at the bra with the coefficient c, where a term's outcome is o
-abbrev pub added : ℕ → Float → Float → Outcome → Float
-added bra c x gone = x
-added bra c x (went w s) = cond (eqb w bra) (add binary64 x (signed s c)) x
+abbrev pub addedFloat : ℕ → Float → Float → Outcome → Float
+addedFloat bra c x gone = x
+addedFloat bra c x (went w s) = cond (eqb w bra) (add binary64 x (signedFloat s c)) x
 
 -- the sum x and one term, whose coefficient is c
 abbrev pub joined : ℕ → ℕ → ℕ → ℕ → Float → Float → Float
-joined bra ket cre ann c x = added bra c x (term cre ann (went ket false))
+joined bra ket cre ann c x = addedFloat bra c x (term cre ann (went ket false))
 
 -- the sum over the first n terms, from plus zero
 unfoldable pub sumTo : ℕ → ℕ → List ℕ → List ℕ → List Float → ℕ → Float

@@ -10,7 +10,7 @@ ghost use lib.ListN.{length};
 ghost use Rattle.mat_elem.specs.Refusals.{firstRefusal};
 ghost use Rattle.float_elem.specs.Sums.{joined};
 ghost use Rattle.float_elem.specs.Answers.{toldBy};
-ghost use Rattle.float_elem.specs.Elements.{allFinite, listed, termRefusal, termAt, summed, floatElement};
+ghost use Rattle.float_elem.specs.Elements.{allFinite, listed, floatTermRefusal, termAt, summed, floatElement};
 ghost use Rattle.float_elem.specs.Lengths.{OneLength};
 
 // A complex number; also the running sum of an element.
@@ -67,7 +67,7 @@ fn is_listed(m: u64, cre: &[u64], ann: &[u64], re: &[f64], im: &[f64]) -> bool
 
 // Numbers 2 and 13 of the term at `place`.
 fn term_refusal(space: ModeSpace, place: u64, cre: u64, ann: u64, c: Complex64) -> Refusal
-    ensures { λ r. ⌜ r ≡ termRefusal (space .count) place cre ann (c .re ∷ c .im ∷ []) ⌝ }
+    ensures { λ r. ⌜ r ≡ floatTermRefusal (space .count) place cre ann (c .re ∷ c .im ∷ []) ⌝ }
 {
     if !record::is_inside(space, cre, ann) {
         return Refusal {

@@ -12,7 +12,7 @@ use Rattle.modes.proofs.Bools.{⊕-false, false-⊕, ⊕-self}
 use Rattle.modes.proofs.Sets.{each-all, each-at}
 use Rattle.modes.proofs.Digits.{lt-or-ge, bit-xor, bit-and, bit-not, bit-above, bit-none, ext}
 use Rattle.modes.proofs.Counts.{parity-add, exchanges-odd}
-use Rattle.products.specs.Apply.{resultOf, applied}
+use Rattle.products.specs.Apply.{applyResultOf, applied}
 use Rattle.products.specs.declared.ApplyResult.the-variants.{Applied, Zero}
 use Rattle.products.specs.Product.{signOf}
 use Rattle.products.proofs.ClosedForm.{ready, term-is}
@@ -98,11 +98,11 @@ module _ (cre ann ket : ℕ) (hc : cre < 2 ^ 64) (ha : ann < 2 ^ 64) (hk : ket <
   after = bitAnd ket ((2 ^ 64 - 1) - ann)
 
   pub zero-not-held : (bitAnd ket ann ≡ ann → ⊥) → Zero ≡ applied cre ann ket
-  zero-not-held n = sym (ap resultOf (term-is cre ann ket false hc ha) ∙ rw (subset-no 64 ket ann ha n))
+  zero-not-held n = sym (ap applyResultOf (term-is cre ann ket false hc ha) ∙ rw (subset-no 64 ket ann ha n))
 
   pub zero-occupied : bitAnd ket ann ≡ ann → (bitAnd cre after ≡ 0 → ⊥) → Zero ≡ applied cre ann ket
   zero-occupied e n =
-      sym (ap resultOf (term-is cre ann ket false hc ha)
+      sym (ap applyResultOf (term-is cre ann ket false hc ha)
       ∙ rw (subset-yes 64 ket ann e, apart-no 64 cre (bitXor ket ann) hc (λ q. n (ap (bitAnd cre) (without 64 ket ann hk ha e) ∙ q))))
 
   -- x and y are the two exchange counts, and s the sign of their sum
@@ -111,7 +111,7 @@ module _ (cre ann ket : ℕ) (hc : cre < 2 ^ 64) (ha : ann < 2 ^ 64) (hk : ket <
       → Applied (bitOr after cre) s ≡ applied cre ann ket
   applied-is e d x y s p q r =
       ap₂ Applied word (sign-path (r ∙ sign))
-      ∙ sym (ap resultOf (term-is cre ann ket false hc ha) ∙ rw (subset-yes 64 ket ann e, apart-yes 64 cre (bitXor ket ann) d′))
+      ∙ sym (ap applyResultOf (term-is cre ann ket false hc ha) ∙ rw (subset-yes 64 ket ann e, apart-yes 64 cre (bitXor ket ann) d′))
     where
       w : after ≡ bitXor ket ann
       w = without 64 ket ann hk ha e

@@ -14,7 +14,7 @@ use Rattle.modes.proofs.Sets.{odd-exchanges-△-l, each-at, each-all}
 use Rattle.modes.proofs.Digits.{lt-or-ge, bit-xor, bits-xor, bit-above, ext}
 use Rattle.modes.proofs.Counts.{count-sum, count-mono, exchanges-odd, exchanges-self, parity-add}
 use Rattle.products.specs.PhaseRule.{gone, went}
-use Rattle.products.specs.Apply.{resultOf, applied, Ready}
+use Rattle.products.specs.Apply.{applyResultOf, applied, Ready}
 use Rattle.products.specs.declared.ApplyResult.the-variants.{Applied, Zero}
 use Rattle.products.specs.Product.{signOf}
 use Rattle.products.proofs.ClosedForm.{fit, acts, acts-is, term-is}
@@ -96,14 +96,14 @@ module _ (cre ann ket : ℕ) (hc : cre < 2 ^ 64) (ha : ann < 2 ^ 64) where
 
   pub applied-where-ready : Ready cre ann ket → applied cre ann ket ≡ Applied (bitXor (bitXor ket ann) cre) (record { 0 = signOf cre ann ket })
   applied-where-ready r =
-      ap resultOf (term-is cre ann ket false hc ha) ∙ rw (ready-acts r, false-⊕ (signOf cre ann ket))
+      ap applyResultOf (term-is cre ann ket false hc ha) ∙ rw (ready-acts r, false-⊕ (signOf cre ann ket))
 
   -- an answer that is not Zero is of a ket that is ready
   pub ready-where-applied : (w : ℕ) (s : Sign) → applied cre ann ket ≡ Applied w s → Ready cre ann ket
-  ready-where-applied w s e = go (acts cre ann ket) refl (sym (ap resultOf (term-is cre ann ket false hc ha)) ∙ e)
+  ready-where-applied w s e = go (acts cre ann ket) refl (sym (ap applyResultOf (term-is cre ann ket false hc ha)) ∙ e)
     where
       go : (b : Bool) → acts cre ann ket ≡ b
-          → resultOf (cond b (went (bitXor (bitXor ket ann) cre) (false ⊕ signOf cre ann ket)) gone) ≡ Applied w s → Ready cre ann ket
+          → applyResultOf (cond b (went (bitXor (bitXor ket ann) cre) (false ⊕ signOf cre ann ket)) gone) ≡ Applied w s → Ready cre ann ket
       go true q r = acts-ready q
       go false q r = let z : _≡_ {A = ℕ} 0 1 = cc in absurd (omega arith)
 
@@ -156,5 +156,5 @@ module _ (cre ann ket : ℕ) (hc : cre < 2 ^ 64) (ha : ann < 2 ^ 64) where
 
     pub swapped-restores : applied ann cre w ≡ Applied ket (record { 0 = s .0 ⊕ parity (pairs (count 64 (bit cre)) + pairs (count 64 (bit ann))) })
     swapped-restores =
-        ap resultOf (term-is ann cre w false ha hc)
+        ap applyResultOf (term-is ann cre w false ha hc)
         ∙ rw (back-acts, back-word, false-⊕ (signOf ann cre w), back-sign)

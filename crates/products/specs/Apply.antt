@@ -8,13 +8,13 @@ use Rattle.products.specs.declared.ApplyResult.{ApplyResult}
 use Rattle.products.specs.declared.ApplyResult.the-variants.{Applied, Zero}
 
 -- each case of ApplyResult
-abbrev pub resultOf : Outcome → ApplyResult
-resultOf gone = Zero
-resultOf (went w s) = Applied w (record { 0 = s })
+abbrev pub applyResultOf : Outcome → ApplyResult
+applyResultOf gone = Zero
+applyResultOf (went w s) = Applied w (record { 0 = s })
 
 -- the term {cre|ann} on a ket, which starts with the sign plus
 abbrev pub applied : ℕ → ℕ → ℕ → ApplyResult
-applied cre ann ket = resultOf (term cre ann (went ket false))
+applied cre ann ket = applyResultOf (term cre ann (went ket false))
 
 -- the ket contains every annihilated mode and, with those removed, has no created mode
 pub record Ready (cre ann ket : ℕ) : Type 0 where

@@ -27,7 +27,7 @@ use Rattle.multiply.specs.Answers.{earlyRefusal, commutatorOf}
 use Rattle.multiply.proofs.Theorems.{product-accepted, product-modes, commutator-elements}
 use Rattle.stream.specs.Lines.{refusedLine, lineIn}
 use Rattle.stream.specs.Replies.{totalOf, firstOf, secondOf, holdsFirst, answerTo, textOf, replyTo, Replies}
-use Rattle.stream.specs.Told.{Commutator, Told, line, result}
+use Rattle.stream.specs.Reported.{Commutator, Reported, line, result}
 use Rattle.stream.proofs.Replies.{total-decides}
 use Rattle.stream.proofs.Bounds.{lawful-line, lawful-answer}
 
@@ -170,14 +170,14 @@ module _ (work room : ℕ) (input : List ℕ) where
           elements = commutator-elements work room (firstOf input) (secondOf input) (answer .answer) (answer .bytes) given z;
         }
 
-  told : 18 ≤ room → Told input (textOf room answer)
+  told : 18 ≤ room → Reported input (textOf room answer)
   unfolding textOf
   told h = go (eqb (answer .answer .refusal .number) 0) refl
     where
-      go : (s : Bool) → eqb (answer .answer .refusal .number) 0 ≡ s → Told input (cond s (take (answer .answer .len) (answer .bytes)) (lineIn room (answer .answer .refusal)))
+      go : (s : Bool) → eqb (answer .answer .refusal .number) 0 ≡ s → Reported input (cond s (take (answer .answer .len) (answer .bytes)) (lineIn room (answer .answer .refusal)))
       go true e = result (is-commutator (eqb-true _ _ e))
       go false e = line (answer .answer .refusal) (eqb-false _ _ e) (line-fits room (answer .answer .refusal) (omega (arith, lawful-line (answer .answer .refusal) (lawful-answer work room input))))
 
   -- THE REPLY: of the bytes to be written, as they stand in the output
-  pub reply-told : 18 ≤ room → (r : ℕ) (after clean : List ℕ) → Replies (replyTo work room input) room r after work clean → Told input (take r after)
+  pub reply-told : 18 ≤ room → (r : ℕ) (after clean : List ℕ) → Replies (replyTo work room input) room r after work clean → Reported input (take r after)
   reply-told h r after clean g = rw (ap (take r) (g .says .bytes) ∙ take-at (replyTo work room input) _ r (sym (g .says .len))) (told h)

@@ -2,4 +2,4 @@ pub mod Decimal
 pub mod Lines
 pub mod Replies
 pub mod Stores
-pub mod Told
+pub mod Reported

@@ -18,6 +18,6 @@ pub record Commutator (a b text : List ℕ) : Type 0 where
   pub modes : modesOf text ≡ modesOf a
   pub elements : (bra ket : ℕ) → element bra ket (termsOf text) ≡ inTurn bra ket (termsOf a) (termsOf b) +ℤ negℤ (inTurn bra ket (termsOf b) (termsOf a))
 
-pub data Told (input text : List ℕ) : Type 0 where
-  line : (f : Refusal) → (f .number ≡ 0 → ⊥) → text ≡ refusedLine f → Told input text
-  result : Commutator (firstOf input) (secondOf input) text → Told input text
+pub data Reported (input text : List ℕ) : Type 0 where
+  line : (f : Refusal) → (f .number ≡ 0 → ⊥) → text ≡ refusedLine f → Reported input text
+  result : Commutator (firstOf input) (secondOf input) text → Reported input text
