@@ -6,7 +6,7 @@ import random
 import face
 import records
 import rule
-from calls import MISSING, Calls
+from calls import MISSING, run
 
 SEED = 20261116
 FULL = 2**64 - 1
@@ -159,22 +159,12 @@ def check_sequence(calls):
         calls.judge("one call after another", "mul_cmpnts", *words, (24 << i % 5) - i % 2)
 
 
-def main():
-    lib, kind = face.load()
-    print(f"called from Python: {kind}")
-    tally = face.Tally()
-    calls = Calls(lib, SEED, tally)
-    check_cases(calls)
-    check_every_pair(calls, 2)
-    check_every_pair(calls, 3)
-    check_stored(calls)
-    check_drawn(calls)
-    check_many_rows(calls)
-    check_refused(calls)
-    check_empty(calls)
-    check_sequence(calls)
-    calls.print_refusals()
-    tally.close()
+def check_every_pair_of_words(calls):
+    for m in (2, 3):
+        check_every_pair(calls, m)
 
 
-main()
+run(SEED, (
+    check_cases, check_every_pair_of_words, check_stored, check_drawn, check_many_rows, check_refused, check_empty,
+    check_sequence,
+))
