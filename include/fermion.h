@@ -47,6 +47,11 @@ void fermion_commutator(const uint8_t *a, size_t a_len, const uint8_t *b, size_t
 void fermion_anticommutator(const uint8_t *a, size_t a_len, const uint8_t *b, size_t b_len,
                             uint8_t *work, size_t work_len, uint8_t *out, size_t out_len, uint64_t answer[8]);
 
+/* The branches of the products a b ([4]) and b a ([5]), exactly, without memory: a work of 24 * [4] bytes is enough for
+ * fermion_mul, one of 24 * ([4] + [5]) for fermion_commutator and fermion_anticommutator. 7: 24 * ([4] + [5]) is more than
+ * 2^63. */
+void fermion_branches(const uint8_t *a, size_t a_len, const uint8_t *b, size_t b_len, uint64_t answer[8]);
+
 void fermion_adjoint(const uint8_t *a, size_t a_len, uint8_t *out, size_t out_len, uint64_t answer[8]);
 
 /* [5] 1 or 0 */

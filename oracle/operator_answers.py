@@ -109,7 +109,7 @@ def common_modes(left, right):
 
 def is_small(left, right, rows):
     both = (left, right), (right, left)
-    return max(common_modes(*pair) for pair in both) <= COMMON and sum(records.branches(*pair) for pair in both) <= rows
+    return max(common_modes(*pair) for pair in both) <= COMMON and sum(records.branch_count(*pair) for pair in both) <= rows
 
 
 def product_inputs():

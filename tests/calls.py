@@ -14,7 +14,7 @@ TAKES = {
     "mul_cmpnts": "uuuuo", "check": "r", "add": "rro", "sub": "rro", "mul": "rroo", "commutator": "rroo",
     "anticommutator": "rroo", "adjoint": "ro", "is_hermitian": "r", "conserves_particle_number": "r",
     "max_n_body": "r", "active_modes": "r", "block": "ru", "element": "ruu", "mat_ortho_projected": "rw",
-    "compare": "rr", "mat_elem_real": "uwwwuu", "mat_elem_complex": "uwwwwuu",
+    "compare": "rr", "branches": "rr", "mat_elem_real": "uwwwuu", "mat_elem_complex": "uwwwwuu",
 }
 FIXED = {"mat_ortho_projected": 512, "mat_elem_real": 16, "mat_elem_complex": 16}
 PASSED = {"u": [ctypes.c_uint64], "r": [ctypes.c_void_p, ctypes.c_size_t]}

@@ -61,7 +61,7 @@ def drawn_pair(rng):
         kinds = ("few", "body") if near else ("few", "body", "dense")
         left, right = (draws.rows(rng, m, rng.randint(0, 5), rng.choice(kinds), rng.random() < 0.8, near) for _ in "ab")
         orders = (left, right), (right, left)
-        if all(common(*order) <= 6 for order in orders) and sum(records.branches(*order) for order in orders) <= 200:
+        if all(common(*order) <= 6 for order in orders) and sum(records.branch_count(*order) for order in orders) <= 200:
             return records.encode(m, left), records.encode(m, right)
 
 

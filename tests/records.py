@@ -182,7 +182,8 @@ def sub(a, b, out_len):
     return combined(a, b, -1, out_len)
 
 
-def branches(left, right):
+def branch_count(left, right):
+    """The rows of all pairs of a left and a right term."""
     return sum(row_count((lc, la), (rc, ra)) for la, lc, _ in left for ra, rc, _ in right)
 
 
@@ -203,7 +204,7 @@ def product(a, b, other_order, work_len, out_len):
     orders = [(left, right, 1)] + ([(right, left, other_order)] if other_order else [])
     if weight(left) * weight(right) > MAX_WEIGHT:
         return refused((8, 0, 0), work_len, out_len)
-    count = sum(branches(first, second) for first, second, _ in orders)
+    count = sum(branch_count(first, second) for first, second, _ in orders)
     if ROW * count > work_len:
         return refused((7, 0, 0), work_len, out_len)
     rows = joined(itertools.chain(*(product_rows(*order) for order in orders)))
@@ -223,6 +224,18 @@ def commutator(a, b, work_len, out_len):
 
 def anticommutator(a, b, work_len, out_len):
     return product(a, b, 1, work_len, out_len)
+
+
+def branches(a, b):
+    """Those of A B and of B A: 7 where the rows of both would take more than 2^63 bytes."""
+    fault = refusal_of_two(a, b)
+    if fault:
+        return refused(fault)
+    left, right = decode(a)[1], decode(b)[1]
+    forward, backward = branch_count(left, right), branch_count(right, left)
+    if ROW * (forward + backward) > 2**63:
+        return refused((7, 0, 0))
+    return given(backward, count=forward)
 
 
 def pairs(word):

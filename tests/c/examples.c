@@ -301,6 +301,33 @@ static struct tally check_anticommutator(void)
     return check_product("fermion_anticommutator", fermion_anticommutator, 4, 3, terms);
 }
 
+/* {|0} and {0|} have two branches one way and one the other; then 1 of each record and 6 */
+static struct tally check_branches(void)
+{
+    struct tally t = {"fermion_branches", 0, 0};
+    static const int8_t ladders[2][1][3] = {{{1, 0, 1}}, {{0, 1, 1}}};
+    uint8_t a[56], b[56];
+    record_of(a, 1, ladders[0]);
+    record_of(b, 1, ladders[1]);
+    const struct {
+        const uint8_t *a, *b;
+        size_t a_len, b_len;
+        struct guarded answer;
+    } calls[] = {
+        {a, b, 56, 56, answer_of(0, 0, 0, 2, 1, 0, 0)},       {b, a, 56, 56, answer_of(0, 0, 0, 1, 2, 0, 0)},
+        {a, a, 56, 56, answer_of(0, 0, 0, 0, 0, 0, 0)},       {example, none, 80, 32, answer_of(0, 0, 0, 0, 0, 0, 0)},
+        {example, example, 80, 80, answer_of(0, 0, 0, 4, 4, 0, 0)},
+        {a, b, 55, 56, answer_of(1, 1, 0, 0, 0, 0, 0)},       {a, b, 56, 55, answer_of(1, 2, 0, 0, 0, 0, 0)},
+        {a, other, 56, 32, answer_of(6, 0, 0, 0, 0, 0, 0)},
+    };
+    for (size_t i = 0; i < sizeof calls / sizeof calls[0]; i++) {
+        struct guarded got = dirty();
+        fermion_branches(calls[i].a, calls[i].a_len, calls[i].b, calls[i].b_len, got.answer);
+        same_answer(&t, got, calls[i].answer);
+    }
+    return t;
+}
+
 /* {|0} times {0|} is {|} - {0|0}, the lower rank first; a byte less is refused with 7; {|0} times {|0} is nothing */
 static struct tally check_mul_cmpnts(void)
 {
@@ -370,7 +397,7 @@ void check_examples(int *passed, int *failed)
         check_combined("fermion_sub", fermion_sub, none, 32),
         check_mul(),
         check_commutator(),
-        check_anticommutator(),
+        check_anticommutator(), check_branches(),
         check_adjoint(),
         check_test("fermion_is_hermitian", fermion_is_hermitian, 1, 0, 0),
         check_test("fermion_conserves_particle_number", fermion_conserves_particle_number, 1, 0, 0),

@@ -25,6 +25,7 @@ use Rattle.float_elem.specs.Answers.{Told}
 use Rattle.mat_elem.specs.declared.Row.{Row}
 use Rattle.mat_elem.specs.declared.Projected.{Projected}
 use Rattle.compare.specs.declared.Compared.{Compared}
+use Rattle.branches.specs.declared.BranchCounts.{BranchCounts}
 
 -- a call that fills no output: its refusal, and its own three values
 abbrev pub answered : Refusal → ℕ → ℕ → ℕ → List ℕ
@@ -87,6 +88,10 @@ pub record FillsFloat (t : Told) (value : List Float) (answer : List ℕ) : Type
 -- a comparison: 1 where equal, and the bra and the ket that are named
 abbrev pub comparedAnswer : Compared → List ℕ
 comparedAnswer c = answered (c .refusal) (cond (c .equal) 1 0) (c .bra) (c .ket)
+
+-- the branches of the products a b and b a
+abbrev pub branchesAnswer : BranchCounts → List ℕ
+branchesAnswer c = c .refusal .number ∷ c .refusal .operand ∷ c .refusal .place ∷ 0 ∷ c .forward ∷ c .backward ∷ 0 ∷ 0 ∷ []
 
 -- the rows of a matrix one after the other
 unfoldable pub inRows : List Row → List ℤ

@@ -7,6 +7,7 @@ ghost use Rattle.products.specs.Apply.{applied};
 ghost use Rattle.products.specs.Product.{multiplied};
 ghost use Rattle.lincomb.specs.Sums.{added, subtracted};
 ghost use Rattle.multiply.specs.Answers.{productOf, commutatorOf, anticommutatorOf};
+ghost use Rattle.branches.specs.Branches.{branchesTold};
 ghost use Rattle.adjoint.specs.Adjoint.{adjointed};
 ghost use Rattle.adjoint.specs.Hermitian.{hermitianOf};
 ghost use Rattle.mat_elem.specs.Elements.{elementOf};
@@ -18,7 +19,8 @@ ghost use Rattle.record.specs.Refusals.{checkedOf};
 ghost use Rattle.record.specs.Blocks.{blockOf};
 ghost use Rattle.record.specs.Figures.{conservesOf, maxNBodyOf, activeModesOf};
 ghost use Rattle.fermion.specs.Face.{applyAnswer, writtenAnswer, answered, checkedAnswer, testedAnswer, measuredAnswer, stretchAnswer, elementAnswer, Fills, FillsClean};
-ghost use Rattle.fermion.specs.Face.{floatValues, floatAnswer, FillsFloat, comparedAnswer, inRows, FillsMatrix};
+ghost use Rattle.fermion.specs.Face.{floatValues, floatAnswer, FillsFloat, comparedAnswer, branchesAnswer, inRows, FillsMatrix};
+use branches::BranchCounts;
 use compare::Compared;
 use float_elem::FloatElement;
 use mat_elem::Exact;
@@ -172,6 +174,20 @@ pub extern "C" fn fermion_anticommutator(
 {
     let w = multiply::anticommutator(a, b, work, out);
     *answer = written(w);
+}
+
+fn counted(c: BranchCounts) -> [u64; 8]
+    ensures { λ a. ⌜ a ≡ branchesAnswer c ⌝ }
+{
+    let r = c.refusal;
+    [r.number, r.operand, r.place, 0, c.forward, c.backward, 0, 0]
+}
+
+#[no_mangle]
+pub extern "C" fn fermion_branches(a: &[u8], b: &[u8], answer: &mut [u64; 8])
+    ensures { λ _. ⌜ now (answer .exit) ≡ branchesAnswer (branchesTold (now (a .entry)) (now (b .entry))) ⌝ }
+{
+    *answer = counted(branches::branches(a, b));
 }
 
 #[no_mangle]

@@ -1,0 +1,10 @@
+-- No two answers meet the promise of `branches`.
+use mathlib.Core.Path.{_≡_}
+use mathlib.Core.List.{List}
+use Prim.Native.Nat.{ℕ}
+use Rattle.record.proofs.Unique.{one}
+use Rattle.branches.specs.Branches.{branchesTold}
+use Rattle.branches.specs.declared.BranchCounts.{BranchCounts}
+
+pub one-counting : (a b : List ℕ) (r s : BranchCounts) → r ≡ branchesTold a b → s ≡ branchesTold a b → r ≡ s
+one-counting a b r s = one

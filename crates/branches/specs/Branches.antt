@@ -1,0 +1,31 @@
+-- The branches of the two products of two records, told without multiplying them out.
+use mathlib.Core.Bool.{false, cond}
+use mathlib.Core.List.{List}
+use Prim.Native.Nat.{ℕ, _+_, _^_}
+use lib.Dec.{eqb}
+use Rattle.modes.specs.declared.Refusal.{Refusal}
+use Rattle.modes.specs.Answers.{none}
+use Rattle.record.specs.Layout.{termsOf}
+use Rattle.record.specs.Refusals.{orElse}
+use Rattle.lincomb.specs.Results.{pairRefusal}
+use Rattle.pairs.specs.Products.{allBranches}
+use Rattle.multiply.specs.Answers.{workRefusal}
+use Rattle.branches.specs.declared.BranchCounts.{BranchCounts}
+
+-- those of a b, and those of b a
+abbrev pub counted : ℕ → ℕ → BranchCounts
+counted forward backward = record { refusal = none; forward = forward; backward = backward }
+
+abbrev pub uncounted : Refusal → BranchCounts
+uncounted r = record { refusal = r; forward = 0; backward = 0 }
+
+-- one order alone: the branches of the product of the first record and the second
+abbrev pub branchesIn : List ℕ → List ℕ → ℕ
+branchesIn a b = allBranches false (termsOf a) (termsOf b)
+
+-- both records and 6; then 7, if no work of up to 2^63 bytes would hold a row for each branch of both orders
+unfoldable pub branchesRefusal : List ℕ → List ℕ → Refusal
+branchesRefusal a b = orElse (pairRefusal a b) (workRefusal (2 ^ 63) (branchesIn a b + branchesIn b a))
+
+unfoldable pub branchesTold : List ℕ → List ℕ → BranchCounts
+branchesTold a b = cond (eqb ((branchesRefusal a b) .number) 0) (counted (branchesIn a b) (branchesIn b a)) (uncounted (branchesRefusal a b))

@@ -1,0 +1,2 @@
+pub mod Ceiling
+pub mod Branches
