@@ -1,13 +1,14 @@
 use crate::face::{self, List, Multiplies, Reads, Sums};
-use crate::record::{HEADER, ROW};
-use crate::{Record, Refusal, Rows, Term, MAX_BYTES, MAX_TERMS};
+use crate::record::HEADER;
+use crate::{Reason, Record, Refusal, Rows, Term, MAX_BYTES, MAX_MODES, MAX_TERMS, ROW};
 
 /// The most words that a basis may have.
 pub const MAX_BASIS: usize = 8;
-/// The bytes of work that a product is tried with first, where the caller lends none.
-pub const FIRST_WORK: usize = 65_520;
-/// The bytes of work beyond which a product is not tried again, unless the caller names another ceiling.
-pub const WORK_CEILING: usize = 1 << 28;
+/// The most bytes, 2^24, that a call takes by itself for work or rows, unless the caller names another ceiling.
+///
+/// The records decide how much a product needs, and records of 56 bytes can ask for more than any machine has. What needs
+/// more than the ceiling is refused with 7, before any of it is taken.
+pub const WORK_CEILING: usize = 1 << 24;
 
 /// What a term does to an occupation word.
 #[derive(Clone, Copy, Debug, PartialEq, Eq, Hash)]
@@ -34,13 +35,44 @@ pub struct Checked {
     pub weight: u64,
 }
 
-/// The record of a product, and how many branches it took.
+/// The record of a product, and how many branches it took. It is taken wherever a record is.
+///
+/// ```
+/// use fermion::{commutator, word, Record};
+/// let [a, b, c] = [(1, 2), (2, 4), (4, 1)].map(|(cre, ann)| Record::build(3, [(cre, ann, 1)]).unwrap());
+/// let answer = commutator(&commutator(&a, &b)?, &c)?; // [{0|2}, {2|0}]
+/// assert_eq!(answer.record.to_string(), "1 {0|0} - 1 {2|2}");
+/// assert_eq!(fermion::element(&answer, word(&[2]), word(&[2]))?, -1);
+/// # Ok::<(), fermion::Refusal>(())
+/// ```
 #[derive(Clone, Debug, PartialEq, Eq, Hash)]
 pub struct Product<'a> {
     /// The record.
     pub record: Record<'a>,
     /// The branches: a work of 24 bytes for each is enough.
     pub branches: u64,
+}
+
+impl AsRef<[u8]> for Product<'_> {
+    fn as_ref(&self) -> &[u8] {
+        self.record.as_bytes()
+    }
+}
+
+/// How many branches the products of two records have, in both orders.
+#[derive(Clone, Copy, Debug, PartialEq, Eq, Hash)]
+pub struct Branches {
+    /// Those of a b: a work of [`ROW`] bytes for each is enough for [`mul_into`].
+    pub forward: u64,
+    /// Those of b a.
+    pub backward: u64,
+}
+
+impl Branches {
+    /// The sum: a work of [`ROW`] bytes for each is enough for [`commutator_into`] and [`anticommutator_into`].
+    pub const fn both(self) -> u64 {
+        self.forward + self.backward
+    }
 }
 
 /// Whether two records are equal.
@@ -73,7 +105,8 @@ pub fn apply(cre: u64, ann: u64, ket: u64) -> Outcome {
 
 /// The terms of the product of two terms, each given as (creation word, annihilation word).
 ///
-/// There are 2^b of them for b modes that branch. Refusal 7: their rows do not fit into [`WORK_CEILING`] bytes.
+/// There are 2^b of them for b modes that branch. Refusal 7: their rows, 24 bytes each, are more than [`WORK_CEILING`]
+/// bytes, 2^24; then no memory is taken for them. The terms handed back take as much again.
 ///
 /// ```
 /// let terms = fermion::mul_cmpnts((0, 1), (1, 0))?;
@@ -84,9 +117,14 @@ pub fn mul_cmpnts(left: (u64, u64), right: (u64, u64)) -> Result<Vec<Term>, Refu
     mul_cmpnts_within(left, right, WORK_CEILING)
 }
 
-/// [`mul_cmpnts`] with a ceiling of the caller's, in bytes, for its rows.
+/// [`mul_cmpnts`] with a ceiling of the caller's, in bytes, for its rows, in place of [`WORK_CEILING`].
 pub fn mul_cmpnts_within(left: (u64, u64), right: (u64, u64), ceiling: usize) -> Result<Vec<Term>, Refusal> {
-    growing(ceiling, |out| Ok(mul_cmpnts_into(left, right, out)?.collect()))
+    let rows = match branches(&alone(left)?, &alone(right)?) {
+        Ok(counts) => fitting(counts.forward, ceiling),
+        // 59 modes or more branch in one of the two orders. No mode branches in both, so at most 5 do in the other.
+        Err(_) => (1 << 5).min(ceiling / ROW),
+    };
+    Ok(mul_cmpnts_into(left, right, &mut vec![0; ROW * rows])?.collect())
 }
 
 /// [`mul_cmpnts`] with rows in memory of the caller's, which is zero past them. Refusal 7: it is too short.
@@ -167,7 +205,30 @@ pub fn sub_into<'o>(
     summed_into(face::SUB, a.as_ref(), b.as_ref(), out)
 }
 
-/// The product a b. Refusals: 1 to 6, 8, 7, 10, 9; 7 where [`WORK_CEILING`] bytes of work are not enough.
+/// The branches of the products a b and b a, exactly: how much work they need. It takes no memory.
+///
+/// Refusals: 1 to 6, and 7 where 24 bytes for each branch of both are more than 2^63.
+///
+/// ```
+/// use fermion::{branches, mul_into, Branches, Record, ROW};
+/// let (a, b) = (Record::build(1, [(0, 1, 1)])?, Record::build(1, [(1, 0, 1)])?);
+/// let counts = branches(&a, &b)?;
+/// assert_eq!(counts, Branches { forward: 2, backward: 1 });
+/// assert_eq!(counts.both(), 3);
+///
+/// let (mut work, mut out) = (vec![0; ROW * counts.forward as usize], [0; 80]);
+/// assert_eq!(mul_into(&a, &b, &mut work, &mut out)?.record.to_string(), "1 {|} - 1 {0|0}");
+/// # Ok::<(), fermion::Refusal>(())
+/// ```
+pub fn branches(a: &(impl AsRef<[u8]> + ?Sized), b: &(impl AsRef<[u8]> + ?Sized)) -> Result<Branches, Refusal> {
+    let [.., forward, backward, _, _] = face::BRANCHES.call(a.as_ref(), b.as_ref())?;
+    Ok(Branches { forward, backward })
+}
+
+/// The product a b. Refusals: 1 to 6, 8, 7, 10, 9.
+///
+/// It takes the work that it needs, 24 bytes for each branch, up to [`WORK_CEILING`], 2^24 bytes. Where it needs more it
+/// takes none, and is refused with 7: [`mul_within`] has a ceiling of the caller's, [`mul_into`] memory of the caller's.
 ///
 /// ```
 /// use fermion::{mul, Record};
@@ -180,15 +241,26 @@ pub fn mul(a: &(impl AsRef<[u8]> + ?Sized), b: &(impl AsRef<[u8]> + ?Sized)) -> 
     mul_within(a, b, WORK_CEILING)
 }
 
-/// [`mul`] with a ceiling of the caller's, in bytes, for the work.
+/// [`mul`] with a ceiling of the caller's, in bytes, for the work, in place of [`WORK_CEILING`].
 ///
-/// It starts with [`FIRST_WORK`] bytes and takes four times as much, up to the ceiling, as long as 7 is given.
+/// It takes exactly the work that it needs, or none if that is above the ceiling. Where [`branches`] is refused with 7, that
+/// may be for b a alone: then it takes the ceiling, or [`WORK_CEILING`] if that is less.
+///
+/// ```
+/// use fermion::{branches, mul_within, Reason, Record};
+/// let all = (1 << 11) - 1;
+/// let (a, b) = (Record::build(11, [(0, all, 1)])?, Record::build(11, [(all, 0, 1)])?);
+/// assert_eq!(branches(&a, &b)?.forward, 2048);
+/// assert_eq!(mul_within(&a, &b, 24 * 2048)?.record.len(), 2048);
+/// assert_eq!(mul_within(&a, &b, 24 * 2048 - 1).unwrap_err().reason(), Some(Reason::RowsDoNotFit));
+/// # Ok::<(), fermion::Refusal>(())
+/// ```
 pub fn mul_within(
     a: &(impl AsRef<[u8]> + ?Sized),
     b: &(impl AsRef<[u8]> + ?Sized),
     ceiling: usize,
 ) -> Result<Product<'static>, Refusal> {
-    multiplied(face::MUL, a.as_ref(), b.as_ref(), ceiling)
+    multiplied(face::MUL, Orders::Forward, a.as_ref(), b.as_ref(), ceiling)
 }
 
 /// [`mul`] with work and output of the caller's. The work is all zero afterwards, and the output is zero past the record, or
@@ -210,7 +282,10 @@ pub fn mul_into<'o>(
     multiplied_into(face::MUL, a.as_ref(), b.as_ref(), work, out)
 }
 
-/// The commutator a b - b a. Refusals and work: as [`mul`].
+/// The commutator a b - b a. Refusals: as [`mul`].
+///
+/// It takes the work that it needs, 24 bytes for each branch of both products, up to [`WORK_CEILING`], 2^24 bytes. Where it
+/// needs more it takes none, and is refused with 7: [`commutator_within`] has a ceiling of the caller's.
 ///
 /// ```
 /// use fermion::{commutator, Record};
@@ -225,13 +300,13 @@ pub fn commutator(
     commutator_within(a, b, WORK_CEILING)
 }
 
-/// [`commutator`] with a ceiling for the work, as [`mul_within`].
+/// [`commutator`] with a ceiling of the caller's, in bytes, for the work, in place of [`WORK_CEILING`].
 pub fn commutator_within(
     a: &(impl AsRef<[u8]> + ?Sized),
     b: &(impl AsRef<[u8]> + ?Sized),
     ceiling: usize,
 ) -> Result<Product<'static>, Refusal> {
-    multiplied(face::COMMUTATOR, a.as_ref(), b.as_ref(), ceiling)
+    multiplied(face::COMMUTATOR, Orders::Both, a.as_ref(), b.as_ref(), ceiling)
 }
 
 /// [`commutator`] with work and output of the caller's, as [`mul_into`].
@@ -244,7 +319,10 @@ pub fn commutator_into<'o>(
     multiplied_into(face::COMMUTATOR, a.as_ref(), b.as_ref(), work, out)
 }
 
-/// The anticommutator a b + b a. Refusals and work: as [`mul`].
+/// The anticommutator a b + b a. Refusals: as [`mul`].
+///
+/// It takes work up to [`WORK_CEILING`], 2^24 bytes, as [`commutator`] does; [`anticommutator_within`] has a ceiling of the
+/// caller's.
 ///
 /// ```
 /// use fermion::{anticommutator, Record};
@@ -259,13 +337,13 @@ pub fn anticommutator(
     anticommutator_within(a, b, WORK_CEILING)
 }
 
-/// [`anticommutator`] with a ceiling for the work, as [`mul_within`].
+/// [`anticommutator`] with a ceiling of the caller's, in bytes, for the work, in place of [`WORK_CEILING`].
 pub fn anticommutator_within(
     a: &(impl AsRef<[u8]> + ?Sized),
     b: &(impl AsRef<[u8]> + ?Sized),
     ceiling: usize,
 ) -> Result<Product<'static>, Refusal> {
-    multiplied(face::ANTICOMMUTATOR, a.as_ref(), b.as_ref(), ceiling)
+    multiplied(face::ANTICOMMUTATOR, Orders::Both, a.as_ref(), b.as_ref(), ceiling)
 }
 
 /// [`anticommutator`] with work and output of the caller's, as [`mul_into`].
@@ -401,7 +479,7 @@ pub fn mat_ortho_projected(
 /// # Ok::<(), fermion::Refusal>(())
 /// ```
 pub fn compare(a: &(impl AsRef<[u8]> + ?Sized), b: &(impl AsRef<[u8]> + ?Sized)) -> Result<Comparison, Refusal> {
-    Ok(match face::compare(a.as_ref(), b.as_ref())? {
+    Ok(match face::COMPARE.call(a.as_ref(), b.as_ref())? {
         [.., 1, _, _] => Comparison::Equal,
         [.., bra, ket] => Comparison::Different { bra, ket },
     })
@@ -460,13 +538,47 @@ fn summed_into<'o>(call: Sums, a: &[u8], b: &[u8], out: &'o mut [u8]) -> Result<
     Ok(Record::written(&out[..length as usize]))
 }
 
-fn multiplied(call: Multiplies, a: &[u8], b: &[u8], ceiling: usize) -> Result<Product<'static>, Refusal> {
-    growing(ceiling, |work| {
-        // No result has more terms than rows.
-        let mut out = vec![0; HEADER + ROW * MAX_TERMS.min(work.len() / ROW)];
-        let answer = call.call(a, b, work, &mut out)?;
-        Ok(Product { record: record_in(out, answer[3]), branches: answer[4] })
-    })
+/// Which products a call makes rows of: a b, or b a as well.
+#[derive(Clone, Copy)]
+enum Orders {
+    Forward,
+    Both,
+}
+
+fn multiplied(
+    call: Multiplies,
+    orders: Orders,
+    a: &[u8],
+    b: &[u8],
+    ceiling: usize,
+) -> Result<Product<'static>, Refusal> {
+    let rows = work_rows(orders, a, b, ceiling)?;
+    // No result has more terms than rows.
+    let (mut work, mut out) = (vec![0; ROW * rows], vec![0; HEADER + ROW * rows.min(MAX_TERMS)]);
+    let answer = call.call(a, b, &mut work, &mut out)?;
+    Ok(Product { record: record_in(out, answer[3]), branches: answer[4] })
+}
+
+/// The rows that a product is lent. Where they would not fit there are none, and the library then says 8 or 7, in its order.
+fn work_rows(orders: Orders, a: &[u8], b: &[u8], ceiling: usize) -> Result<usize, Refusal> {
+    match (branches(a, b), orders) {
+        (Ok(counts), Orders::Forward) => Ok(fitting(counts.forward, ceiling)),
+        (Ok(counts), Orders::Both) => Ok(fitting(counts.both(), ceiling)),
+        (Err(refusal), _) if refusal.reason() != Some(Reason::RowsDoNotFit) => Err(refusal),
+        // b a may be what has too many: a b, of which the count is not told, may still fit.
+        (Err(_), Orders::Forward) => Ok(ceiling.min(WORK_CEILING) / ROW),
+        (Err(_), Orders::Both) => Ok(0),
+    }
+}
+
+/// As many rows if they fit under the ceiling, else none.
+fn fitting(rows: u64, ceiling: usize) -> usize {
+    usize::try_from(rows).ok().filter(|&rows| rows <= ceiling / ROW).unwrap_or(0)
+}
+
+/// One term, with the coefficient 1, on as many modes as there may be.
+fn alone((cre, ann): (u64, u64)) -> Result<Record<'static>, Refusal> {
+    Record::build(MAX_MODES, [(cre, ann, 1)])
 }
 
 fn multiplied_into<'o>(
@@ -478,17 +590,4 @@ fn multiplied_into<'o>(
 ) -> Result<Product<'o>, Refusal> {
     let answer = call.call(a, b, work, out)?;
     Ok(Product { record: Record::written(&out[..answer[3] as usize]), branches: answer[4] })
-}
-
-/// Attempts with more and more memory, up to the ceiling, as long as 7 is given.
-fn growing<T>(ceiling: usize, attempt: impl Fn(&mut [u8]) -> Result<T, Refusal>) -> Result<T, Refusal> {
-    let mut length = FIRST_WORK.min(ceiling);
-    loop {
-        match attempt(&mut vec![0; length]) {
-            Err(refusal) if refusal.number == 7 && length < ceiling => {
-                length = length.saturating_mul(4).min(ceiling);
-            }
-            decided => return decided,
-        }
-    }
 }

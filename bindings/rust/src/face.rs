@@ -59,6 +59,7 @@ extern "C" {
         out_len: usize,
         answer: Numbers,
     );
+    fn fermion_branches(a: Bytes, a_len: usize, b: Bytes, b_len: usize, answer: Numbers);
     fn fermion_adjoint(a: Bytes, a_len: usize, out: Lent, out_len: usize, answer: Numbers);
     fn fermion_is_hermitian(a: Bytes, a_len: usize, answer: Numbers);
     fn fermion_conserves_particle_number(a: Bytes, a_len: usize, answer: Numbers);
@@ -118,6 +119,19 @@ impl Reads {
     pub(crate) fn call(&self, a: &[u8]) -> Result<Answer, Refusal> {
         // SAFETY: a slice, and eight numbers.
         answered(|answer| unsafe { (self.0)(a.as_ptr(), a.len(), answer) })
+    }
+}
+
+/// Reads two records.
+pub(crate) struct ReadsTwo(unsafe extern "C" fn(Bytes, usize, Bytes, usize, Numbers));
+
+pub(crate) const BRANCHES: ReadsTwo = ReadsTwo(fermion_branches);
+pub(crate) const COMPARE: ReadsTwo = ReadsTwo(fermion_compare);
+
+impl ReadsTwo {
+    pub(crate) fn call(&self, a: &[u8], b: &[u8]) -> Result<Answer, Refusal> {
+        // SAFETY: slices, and eight numbers.
+        answered(|answer| unsafe { (self.0)(a.as_ptr(), a.len(), b.as_ptr(), b.len(), answer) })
     }
 }
 
@@ -195,11 +209,6 @@ pub(crate) fn mat_ortho_projected(a: &[u8], basis: &[u64], matrix: &mut [i64; 64
         let (basis, basis_len) = (basis.as_ptr(), basis.len());
         fermion_mat_ortho_projected(a.as_ptr(), a.len(), basis, basis_len, matrix.as_mut_ptr(), answer)
     })
-}
-
-pub(crate) fn compare(a: &[u8], b: &[u8]) -> Result<Answer, Refusal> {
-    // SAFETY: slices, and eight numbers.
-    answered(|answer| unsafe { fermion_compare(a.as_ptr(), a.len(), b.as_ptr(), b.len(), answer) })
 }
 
 /// The words of a list of terms, and the mode count.

@@ -8,6 +8,6 @@ mod refusal;
 mod term;
 
 pub use calls::*;
-pub use record::{Record, Terms, MAX_BYTES, MAX_MODES, MAX_TERMS, MAX_WEIGHT};
-pub use refusal::Refusal;
+pub use record::{Record, Terms, MAX_BYTES, MAX_MODES, MAX_TERMS, MAX_WEIGHT, ROW};
+pub use refusal::{Reason, Refusal, UnknownReason};
 pub use term::{modes, word, Rows, Term};

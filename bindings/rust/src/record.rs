@@ -4,7 +4,7 @@ use std::fmt;
 
 use crate::face;
 use crate::term::{take, write_sum};
-use crate::{Refusal, Term};
+use crate::{Reason, Refusal, Term};
 
 /// The most modes that an operator may have.
 pub const MAX_MODES: u64 = 64;
@@ -12,10 +12,11 @@ pub const MAX_MODES: u64 = 64;
 pub const MAX_TERMS: usize = 2048;
 /// The largest weight that a record may have: the sum of its coefficients' magnitudes.
 pub const MAX_WEIGHT: u64 = 1 << 60;
-/// The length of a record with as many terms as there may be.
+/// The length of a record with as many terms as there may be: the longest there is.
 pub const MAX_BYTES: usize = HEADER + ROW * MAX_TERMS;
+/// The length of a row, as [`crate::mul_cmpnts_into`] writes them and as the work of a product holds one for each branch.
+pub const ROW: usize = 24;
 pub(crate) const HEADER: usize = 32;
-pub(crate) const ROW: usize = 24;
 
 /// An operator in bytes that the library accepted: its own bytes, or a view of the caller's.
 ///
@@ -129,16 +130,16 @@ impl Record<'static> {
     /// ```
     pub fn build<T: Into<Term>>(modes: u64, terms: impl IntoIterator<Item = T>) -> Result<Record<'static>, Refusal> {
         if !(1..=MAX_MODES).contains(&modes) {
-            return Err(Refusal::new(1, 1, 0));
+            return Err(Refusal::new(Reason::Malformed, 1, 0));
         }
         let sums = joined(modes, terms)?;
         if sums.len() > MAX_TERMS {
-            return Err(Refusal::new(10, 0, 0));
+            return Err(Refusal::new(Reason::TooManyTerms, 0, 0));
         }
         // Up to 2,048 sums of numbers of 64 bits stay far below 2^127.
         let weight: u128 = sums.values().map(|sum| sum.unsigned_abs()).sum();
         if weight > u128::from(MAX_WEIGHT) {
-            return Err(Refusal::new(9, 0, 0));
+            return Err(Refusal::new(Reason::ResultTooHeavy, 0, 0));
         }
         Record::new(encode(modes, &sums))
     }
@@ -152,7 +153,7 @@ fn joined<T: Into<Term>>(modes: u64, terms: impl IntoIterator<Item = T>) -> Resu
     for (place, term) in terms.into_iter().enumerate() {
         let Term { cre, ann, coeff } = term.into();
         if (cre | ann).checked_shr(modes as u32).unwrap_or(0) != 0 {
-            return Err(Refusal::new(2, 1, place as u64));
+            return Err(Refusal::new(Reason::WordOutside, 1, place as u64));
         }
         *sums.entry((ann, cre)).or_default() += i128::from(coeff);
     }

@@ -1,5 +1,7 @@
 use std::fmt;
 
+use crate::ROW;
+
 /// A creation word, an annihilation word and a coefficient.
 ///
 /// ```
@@ -109,7 +111,7 @@ impl Iterator for Rows<'_> {
     }
 
     fn size_hint(&self) -> (usize, Option<usize>) {
-        (self.0.len() / 24, Some(self.0.len() / 24))
+        (self.0.len() / ROW, Some(self.0.len() / ROW))
     }
 }
 
