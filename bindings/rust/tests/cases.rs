@@ -2,7 +2,7 @@
 mod common;
 
 use common::{one, refusal, EXAMPLE};
-use fermion::{apply, word, Comparison, Outcome, Record, Refusal, Term};
+use fermion::{apply, word, Branches, Checked, Comparison, Outcome, Record, Refusal, Term};
 
 fn applied(word: u64, sign: i64) -> Outcome {
     Outcome::Applied { word, sign }
@@ -79,6 +79,31 @@ fn sums_and_products() -> Result<(), Refusal> {
     Ok(())
 }
 
+/// [{0|1}, {1|2}] = {0|2}, and so on, every call taking an answer as it is.
+#[test]
+fn a_product_is_taken_wherever_a_record_is() -> Result<(), Refusal> {
+    let [a, b, c] = [(1, 2), (2, 4), (4, 1)].map(|(cre, ann)| one(3, cre, ann, 1));
+    let inner = fermion::commutator(&a, &b)?;
+    assert_eq!(inner.record, one(3, 1, 4, 1));
+    let outer = fermion::commutator(&fermion::commutator(&a, &b)?, &c)?;
+    assert_eq!(outer.record.to_string(), "1 {0|0} - 1 {2|2}");
+    assert_eq!(fermion::commutator(&c, &inner)?.record.to_string(), "-1 {0|0} + 1 {2|2}");
+    assert_eq!(fermion::anticommutator(&inner, &c)?.record.to_string(), "1 {0|0} + 1 {2|2} + 2 {0,2|0,2}");
+    assert_eq!(fermion::mul(&inner, &c)?.record.to_string(), "1 {0|0} + 1 {0,2|0,2}");
+    assert_eq!(fermion::branches(&inner, &c)?, Branches { forward: 2, backward: 2 });
+    assert_eq!(fermion::add(&inner, &a)?.to_string(), "1 {0|1} + 1 {0|2}");
+    assert_eq!(fermion::sub(&inner, &inner)?.to_string(), "0");
+    assert_eq!(fermion::adjoint(&inner)?, c);
+    assert_eq!(fermion::compare(&inner, &one(3, 1, 4, 1))?, Comparison::Equal);
+    assert_eq!(fermion::check(&outer)?, Checked { modes: 3, terms: 2, weight: 2 });
+    assert_eq!(fermion::element(&inner, word(&[0]), word(&[2]))?, 1);
+    assert_eq!(fermion::mat_ortho_projected(&outer, &[1, 4])?[1][1], -1);
+    assert_eq!(fermion::block(&inner, word(&[2])), 1u64.to_le_bytes());
+    assert!(fermion::is_hermitian(&outer)? && fermion::conserves_particle_number(&outer)?);
+    assert_eq!((fermion::max_n_body(&outer)?, fermion::active_modes(&outer)?), (1, word(&[0, 2])));
+    Ok(())
+}
+
 #[test]
 fn adjoints_and_figures() -> Result<(), Refusal> {
     assert_eq!(fermion::adjoint(&one(2, 3, 0, 1))?, one(2, 0, 3, -1));
@@ -94,6 +119,10 @@ fn adjoints_and_figures() -> Result<(), Refusal> {
 fn refusals_of_two_records() {
     let (heavy, light, two) = (one(2, 0, 0, 1 << 60), one(2, 0, 0, 1), one(2, 0, 0, 2));
     assert_eq!(refusal(fermion::add(&light, &one(3, 0, 0, 1))), (6, 0, 0));
+    assert_eq!(refusal(fermion::branches(&light, &one(3, 0, 0, 1))), (6, 0, 0));
+    for call in [fermion::mul, fermion::commutator, fermion::anticommutator] {
+        assert_eq!(refusal(call(&light, &one(3, 0, 0, 1))), (6, 0, 0));
+    }
     assert_eq!(refusal(fermion::compare(&light, &one(3, 0, 0, 1))), (6, 0, 0));
     assert_eq!(refusal(fermion::mul(&heavy, &two)), (8, 0, 0));
     assert_eq!(refusal(fermion::anticommutator(&heavy, &light)), (9, 0, 0));

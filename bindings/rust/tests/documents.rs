@@ -1,10 +1,15 @@
 //! The crate beside the documents of the repository.
 use std::path::Path;
 
-use fermion::{Record, Refusal};
+use fermion::{Reason, Record, Refusal, UnknownReason};
+use fermion::{MAX_BASIS, MAX_BYTES, MAX_MODES, MAX_TERMS, MAX_WEIGHT, ROW};
 
 fn text(path: &str) -> String {
     std::fs::read_to_string(Path::new(env!("CARGO_MANIFEST_DIR")).join("../..").join(path)).unwrap()
+}
+
+fn refused(number: u64) -> Refusal {
+    Refusal { number, operand: 0, place: 0 }
 }
 
 #[test]
@@ -15,13 +20,50 @@ fn the_sentences_are_those_of_the_table() {
     for row in section.lines().filter(|line| line.starts_with("| ")) {
         let cells: Vec<&str> = row.split(" | ").collect();
         if let Ok(number) = cells[0].trim_start_matches("| ").parse() {
-            assert_eq!(Refusal { number, operand: 0, place: 0 }.sentence(), cells[1]);
+            assert_eq!(refused(number).sentence(), cells[1]);
+            assert_eq!(refused(number).reason().map(Reason::sentence), Some(cells[1]));
             numbers.push(number);
         }
     }
     assert!(numbers.iter().copied().eq(1..=14));
-    let unknown = Refusal { number: 15, operand: 0, place: 0 }.sentence();
-    assert_eq!(unknown, Refusal { number: 0, operand: 0, place: 0 }.sentence());
+    for number in [0, 15, u64::MAX] {
+        assert_eq!(refused(number).sentence(), "a refusal that this crate has no words for");
+    }
+}
+
+#[test]
+fn the_reasons_have_the_numbers_of_the_document() {
+    let named = [
+        Reason::Malformed,
+        Reason::WordOutside,
+        Reason::OutOfOrder,
+        Reason::ZeroCoeff,
+        Reason::TooHeavy,
+        Reason::ModesDiffer,
+        Reason::RowsDoNotFit,
+        Reason::ProductTooHeavy,
+        Reason::ResultTooHeavy,
+        Reason::TooManyTerms,
+        Reason::OutputTooShort,
+        Reason::OccupationOutside,
+        Reason::NotFinite,
+        Reason::BadBasis,
+    ];
+    for (number, reason) in (1..).zip(named) {
+        assert_eq!((u64::from(reason), reason.number()), (number, number));
+        assert_eq!(Reason::try_from(number), Ok(reason));
+        assert_eq!(refused(number).reason(), Some(reason));
+    }
+    for number in [0, 15, u64::MAX] {
+        assert_eq!(Reason::try_from(number), Err(UnknownReason(number)));
+        assert_eq!(refused(number).reason(), None);
+    }
+}
+
+#[test]
+fn the_limits_are_those_of_the_document() {
+    assert_eq!((MAX_MODES, MAX_TERMS, MAX_BYTES, MAX_BASIS, ROW), (64, 2_048, 49_184, 8, 24));
+    assert_eq!(MAX_WEIGHT, 1_152_921_504_606_846_976);
 }
 
 #[test]

@@ -74,7 +74,7 @@ fn rows_in_own_memory() {
 }
 
 #[test]
-fn rows_grow_to_the_ceiling() {
+fn rows_are_taken_up_to_the_ceiling() {
     let (twelve, full, needed) = ((1 << 12) - 1, u64::MAX, 24 << 12);
     assert_eq!(fermion::mul_cmpnts((0, twelve), (twelve, 0)).unwrap().len(), 1 << 12);
     assert_eq!(fermion::mul_cmpnts_within((0, twelve), (twelve, 0), needed).unwrap().len(), 1 << 12);
@@ -85,7 +85,7 @@ fn rows_grow_to_the_ceiling() {
 }
 
 #[test]
-fn work_grows_to_the_ceiling() {
+fn work_is_taken_up_to_the_ceiling() {
     let ladder = |m: u32| {
         let word = (1 << m) - 1;
         (one(m.into(), 0, word, 1), one(m.into(), word, 0, 1))
@@ -97,7 +97,7 @@ fn work_grows_to_the_ceiling() {
     assert_eq!(refusal(fermion::mul_within(&a, &b, (24 << 11) - 1)), (7, 0, 0));
     assert_eq!(refusal(fermion::commutator_within(&a, &b, 24 << 11)), (7, 0, 0));
     assert_eq!(fermion::anticommutator_within(&a, &b, 24 * 2049).unwrap().branches, 2049);
-    let (a, b) = ladder(13); // 8,192 branches: more than the first work holds
+    let (a, b) = ladder(13);
     assert_eq!(refusal(fermion::mul(&a, &b)), (10, 0, 0));
 }
 

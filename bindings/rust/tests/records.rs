@@ -93,6 +93,7 @@ fn every_refusal_of_a_record_by_every_call() {
             assert_eq!(refusal(fermion::mul(a, b)), numbers);
             assert_eq!(refusal(fermion::commutator(a, b)), numbers);
             assert_eq!(refusal(fermion::anticommutator(a, b)), numbers);
+            assert_eq!(refusal(fermion::branches(a, b)), numbers);
             assert_eq!(refusal(fermion::compare(a, b)), numbers);
         }
     }
