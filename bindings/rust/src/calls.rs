@@ -7,7 +7,7 @@ pub const MAX_BASIS: usize = 8;
 /// The most bytes, 2^24, that a call takes by itself for work or rows, unless the caller names another ceiling.
 ///
 /// The records decide how much a product needs, and records of 56 bytes can ask for more than any machine has. What needs
-/// more than the ceiling is refused with 7, before any of it is taken.
+/// more than the ceiling is refused with 7.
 pub const WORK_CEILING: usize = 1 << 24;
 
 /// What a term does to an occupation word.
@@ -227,8 +227,8 @@ pub fn branches(a: &(impl AsRef<[u8]> + ?Sized), b: &(impl AsRef<[u8]> + ?Sized)
 
 /// The product a b. Refusals: 1 to 6, 8, 7, 10, 9.
 ///
-/// It takes the work that it needs, 24 bytes for each branch, up to [`WORK_CEILING`], 2^24 bytes. Where it needs more it
-/// takes none, and is refused with 7: [`mul_within`] has a ceiling of the caller's, [`mul_into`] memory of the caller's.
+/// It takes the work that it needs, 24 bytes for each branch, up to [`WORK_CEILING`], 2^24 bytes. Where it needs more it is
+/// refused with 7: [`mul_within`] has a ceiling of the caller's, [`mul_into`] memory of the caller's.
 ///
 /// ```
 /// use fermion::{mul, Record};
@@ -243,8 +243,8 @@ pub fn mul(a: &(impl AsRef<[u8]> + ?Sized), b: &(impl AsRef<[u8]> + ?Sized)) -> 
 
 /// [`mul`] with a ceiling of the caller's, in bytes, for the work, in place of [`WORK_CEILING`].
 ///
-/// It takes exactly the work that it needs, or none if that is above the ceiling. Where [`branches`] is refused with 7, that
-/// may be for b a alone: then it takes the ceiling, or [`WORK_CEILING`] if that is less.
+/// It takes exactly the work that it needs, or none if that is above the ceiling. Only where [`branches`] is refused with 7,
+/// which may be for b a alone, it takes the ceiling, or [`WORK_CEILING`] if that is less, and more does not help.
 ///
 /// ```
 /// use fermion::{branches, mul_within, Reason, Record};
