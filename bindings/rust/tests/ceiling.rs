@@ -137,3 +137,15 @@ fn a_product_fits_whatever_the_other_order_has() {
         assert_eq!(refusal(fermion::commutator(&b, &a)), (7, 0, 0));
     }
 }
+
+/// 5 modes branch in one order and 59 in the other.
+#[test]
+fn rows_fit_whatever_the_other_order_has() {
+    let (few, many) = (31 << 59, (1 << 59) - 1);
+    assert_eq!(refusal(fermion::branches(&one(64, many, few, 1), &one(64, few, many, 1))), (7, 0, 0));
+    assert_eq!(fermion::mul_cmpnts((many, few), (few, many)).unwrap().len(), 32);
+    assert_eq!(fermion::mul_cmpnts_within((many, few), (few, many), 32 * 24).unwrap().len(), 32);
+    assert_eq!(refusal(fermion::mul_cmpnts_within((many, few), (few, many), 32 * 24 - 1)), (7, 0, 0));
+    assert_eq!(refusal(fermion::mul_cmpnts((few, many), (many, few))), (7, 0, 0));
+    assert_eq!(fermion::mul(&one(64, many, few, 1), &one(64, few, many, 1)).unwrap().branches, 32);
+}
