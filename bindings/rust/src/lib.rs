@@ -1,5 +1,6 @@
 #![doc = include_str!("../README.md")]
 #![deny(missing_docs, unsafe_code)]
+#![allow(clippy::needless_doctest_main)] // README.md shows a whole build.rs
 
 mod calls;
 mod face;
