@@ -23,7 +23,7 @@ fn main() {
 
 /// The folder that is named, else that of the installation whose crate this is, else that of the repository.
 pub fn folder(named: Option<OsString>, here: &Path) -> PathBuf {
-    match named {
+    match named.filter(|named| !named.is_empty()) {
         Some(named) => PathBuf::from(named),
         None if here.ends_with("share/fermion/rust") => here.join("../../../lib"),
         None => here.join("../../target/native"),

@@ -25,6 +25,7 @@ fn a_folder_that_is_named_comes_first() {
     for here in [installed, repository] {
         assert_eq!(folder(Some("/elsewhere".into()), here), Path::new("/elsewhere"));
     }
+    assert_eq!(folder(Some("".into()), installed), folder(None, installed));
     assert_eq!(folder(None, installed), Path::new("/opt/f/share/fermion/rust/../../../lib"));
     assert_eq!(folder(None, repository), Path::new("/home/f/bindings/rust/../../target/native"));
 }
