@@ -3,7 +3,24 @@
 # the machine is no x86-64. Standard input and output are the program's own.
 set -euo pipefail
 cd "$(dirname "$0")/.."
-[ -x "target/bin/$1" ] || { echo "target/bin/$1 is not there: run 'rt check $1' first" >&2; exit 1; }
+say() { echo "tools/run.sh: $1" >&2; }
+usage="usage: tools/run.sh NAME, a program of crates/ that 'rt check NAME' has proved, as in tools/run.sh commutator <two-records"
+case ${1:-} in
+-h | --help)
+    echo "$usage"
+    exit
+    ;;
+esac
+if [ $# -ne 1 ] || [ -z "$1" ]; then
+    say "$usage"
+    exit 2
+elif ! command -v rt >/dev/null; then
+    say "rt is not on PATH: it is the command of the Rattle toolchain, which has the program's loader (docs/INSTALL.md)"
+    exit 1
+elif [ ! -f "target/bin/$1" ] || [ ! -x "target/bin/$1" ]; then
+    say "target/bin/$1 is not there: run 'rt check $1' first"
+    exit 1
+fi
 home=$(cd "$(dirname "$(readlink -f "$(command -v rt)")")/.." && pwd -P)
 tools=$home/on/$(uname -m)/toolchain
 emulator=$tools/bin/qemu-x86_64

@@ -1,61 +1,103 @@
 #!/usr/bin/env bash
-# tools/shared_object.sh [OUT.so]: the proved library `fermion` as a shared object for the machine at hand, to be called
-# from Python or timed. OUT is target/native/libfermion.so unless given.
+# tools/shared_object.sh [OUT.so]: the proved library `fermion` as a shared object for the machine at hand, to be installed,
+# called from Python or timed. OUT is target/native/libfermion.so unless given.
 # On x86-64 it is the code of the archive that `rt staticlib fermion` writes. Elsewhere the toolchain's archive cannot be
 # linked, so the same module is compiled a second time for this machine's processor. The last line says which it was.
-# Where nothing under crates/ has changed since OUT was made, it is not made again: the file OUT.from says what it was
-# made from, and ends with that last line.
+# What is being done is told on standard error; standard output has that last line alone.
+# Where nothing under crates/ has changed since OUT was made, it is not made again: the file OUT.from says what it was made
+# from, what came out, and which code it is. A new OUT is built beside the old one and takes its place only when it is
+# whole, so a build that fails leaves the old one as it was.
 set -euo pipefail
 cd "$(dirname "$0")/.."
+
+say() { echo "tools/shared_object.sh: $1" >&2; }
+need() { # COMMAND WHAT-FOR
+    command -v "$1" >/dev/null && return
+    say "$1 is not on PATH: $2"
+    exit 1
+}
+case ${1:-} in
+-h | --help) exec sed -n '2,/^set /{/^set /d; s/^# \{0,1\}//; p}' tools/shared_object.sh ;;
+esac
+need rt "it is the command of the Rattle toolchain, which proves and compiles the library (docs/INSTALL.md)"
 out=$(realpath -m "${1:-target/native/libfermion.so}")
 mkdir -p "$(dirname "$out")" target/log
 log=target/log/shared_object.out
+archive=target/staticlib/libfermion.a
 exec 9>"$out.lock"
 flock 9 # two tests may ask for it at once
-from=$({ rt version; uname -m; sha256sum tools/shared_object.sh crates.txt; find crates -type f -exec sha256sum {} + | sort; } | sha256sum)
-if [ -f "$out" ] && [ -f target/staticlib/libfermion.a ] && [ "$(head -n 1 "$out.from" 2>/dev/null)" = "$from" ]; then
-    tail -n 1 "$out.from"
+
+sources() { { rt version; uname -m; sha256sum tools/shared_object.sh crates.txt; find crates -type f -exec sha256sum {} + | sort; } | sha256sum; }
+results() { cat "$1" "$archive" 2>/dev/null | sha256sum; }
+from=$(sources)
+if [ -f "$out" ] && [ -f "$archive" ] && [ "$(head -n 2 "$out.from" 2>/dev/null)" = "$from"$'\n'"$(results "$out")" ]; then
+    echo "$out: $(tail -n 1 "$out.from")"
     exit
 fi
-rm -f "$out" "$out.from"
-made() { # says which code it is, now and later
-    printf '%s\n' "$from" "$1" >"$out.from"
-    echo "$1"
-}
-rt staticlib fermion >"$log" 2>&1 || { cat "$log"; exit 1; }
-if [ "$(uname -m)" = x86_64 ]; then
-    gcc -shared -o "$out" -Wl,--whole-archive target/staticlib/libfermion.a -Wl,--no-whole-archive
-    made "$out: x86-64, the archive's own code"
-    exit
-fi
-home=$(cd "$(dirname "$(readlink -f "$(command -v rt)")")/.." && pwd -P)
-own=$home/on/$(uname -m)
+
+need gcc "it links the shared object"
 work=$(mktemp -d)
-trap 'rm -rf "$work"' EXIT
-# A stand-in for the toolchain's compiler keeps the module that it is handed.
-mkdir -p "$work/tc/bin"
-ln -s "$own/toolchain/lib" "$work/tc/lib"
-for tool in "$own"/toolchain/bin/*; do
-    [ "$(basename "$tool")" = clang ] || ln -s "$tool" "$work/tc/bin/"
-done
-cat >"$work/tc/bin/clang" <<SH
+new=$out.new
+trap 'rm -rf "$work" "$new" "$new.from"' EXIT
+
+logged() { # COMMAND..: its lines go to the log, those of rt to standard error too; where it fails, all that it said
+    "$@" 2>&1 | tee -a "$log" | { grep --line-buffered '^rt: ' >&2 || true; } && return
+    cat "$log" >&2
+    say "this failed: $1 $2. $([ -f "$out" ] && echo "$out is as it was" || echo "Nothing was made")"
+    exit 1
+}
+
+# The module as the toolchain's compiler is handed it: a stand-in for the compiler keeps it in $work.
+keep_module() { # KIT OWN-PART-OF-THE-KIT
+    local dep tool words=()
+    mkdir -p "$work/tc/bin"
+    ln -s "$2/toolchain/lib" "$work/tc/lib"
+    for tool in "$2"/toolchain/bin/*; do
+        [ "$(basename "$tool")" = clang ] || ln -s "$tool" "$work/tc/bin/"
+    done
+    cat >"$work/tc/bin/clang" <<SH
 #!/bin/sh
 for a in "\$@"; do case "\$a" in *.bc) cp "\$a" "$work/module.bc" ;; esac; done
-exec "$own/toolchain/bin/clang" "\$@"
+exec "$2/toolchain/bin/clang" "\$@"
 SH
-chmod +x "$work/tc/bin/clang"
-words=()
-for dep in $(sed -n 's/#.*//; s/^fermion: *//p' crates.txt); do
-    words+=(--extern "$dep=target/rlib/$dep.rlib")
-done
-"$own/bin/rattle" build --crate-type staticlib --crate-name fermion crates/fermion/src/lib.rt \
-    --extern "std=$own/rlib/std.rlib" "${words[@]}" -L dependency=target/rlib -L "dependency=$own/rlib" \
-    --antt-project "$home/logic/antt-project.json" --logic-built "$own/logic-built" --toolchain "$work/tc" \
-    -o "$work/lib.a" >>"$log" 2>&1 || { cat "$log"; exit 1; }
-clang=$own/toolchain/bin/clang
-"$clang" --target=x86_64-unknown-linux-gnu -Xclang -disable-llvm-passes -S -emit-llvm -x ir "$work/module.bc" -o "$work/raw.ll"
-sed -e '/^target /d' -e 's/"target-cpu"="x86-64"//g; s/"target-features"="[^"]*"//g; s/"probe-stack"="[^"]*"//g' \
-    "$work/raw.ll" >"$work/own.ll"
-"$clang" --target="$(uname -m)-unknown-linux-gnu" -Wno-override-module -O3 -fPIC -c -x ir "$work/own.ll" -o "$work/own.o"
-gcc -shared -o "$out" "$work/own.o"
-made "$out: $(uname -m), the same module compiled for this processor"
+    chmod +x "$work/tc/bin/clang"
+    # shellcheck disable=SC2013 # words are wanted
+    for dep in $(sed -n 's/#.*//; s/^fermion: *//p' crates.txt); do
+        words+=(--extern "$dep=target/rlib/$dep.rlib")
+    done
+    logged "$2/bin/rattle" build --crate-type staticlib --crate-name fermion crates/fermion/src/lib.rt \
+        --extern "std=$2/rlib/std.rlib" "${words[@]}" -L dependency=target/rlib -L "dependency=$2/rlib" \
+        --antt-project "$1/logic/antt-project.json" --logic-built "$2/logic-built" --toolchain "$work/tc" -o "$work/lib.a"
+}
+
+compile_here() { # WHERE-TO: the module for this machine's processor
+    local home own clang
+    home=$(cd "$(dirname "$(readlink -f "$(command -v rt)")")/.." && pwd -P)
+    own=$home/on/$(uname -m)
+    clang=$own/toolchain/bin/clang
+    keep_module "$home" "$own"
+    "$clang" --target=x86_64-unknown-linux-gnu -Xclang -disable-llvm-passes -S -emit-llvm -x ir "$work/module.bc" -o "$work/raw.ll"
+    sed -e '/^target /d' -e 's/"target-cpu"="x86-64"//g; s/"target-features"="[^"]*"//g; s/"probe-stack"="[^"]*"//g' \
+        "$work/raw.ll" >"$work/own.ll"
+    "$clang" --target="$(uname -m)-unknown-linux-gnu" -Wno-override-module -O3 -fPIC -c -x ir "$work/own.ll" -o "$1"
+}
+
+# Without the compiler's start files there is nothing to write to in it: the library has no data of its own.
+link() { gcc -shared -nostartfiles -Wl,-soname,libfermion.so.0 -o "$new" "$@"; }
+
+: >"$log"
+say "proving and compiling: rt staticlib fermion (4 minutes from nothing, half a minute where all is proved already)"
+logged rt staticlib fermion
+if [ "$(uname -m)" = x86_64 ]; then
+    kind="x86-64, the archive's own code"
+    link -Wl,--whole-archive "$archive" -Wl,--no-whole-archive
+else
+    kind="$(uname -m), the same module compiled for this processor"
+    say "compiling the same module for $(uname -m)"
+    compile_here "$work/own.o"
+    link "$work/own.o"
+fi
+printf '%s\n' "$from" "$(results "$new")" "$kind" >"$new.from"
+mv -f "$new" "$out"
+mv -f "$new.from" "$out.from"
+echo "$out: $kind"
