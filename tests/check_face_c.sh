@@ -14,5 +14,5 @@ else
     code=${built%%: *}
     echo "called from C: ${built##*: }"
 fi
-gcc -std=c11 -O2 -Wall -Wextra -Werror -Iinclude tests/c/*.c "$code" -o "$work/face"
+gcc -std=c11 -O2 -Wall -Wextra -Werror -Iinclude tests/c/*.c "$code" -Wl,-rpath,"$PWD/target/native" -o "$work/face"
 "$work/face"

@@ -6,7 +6,8 @@
 # What is being done is told on standard error; standard output has that last line alone.
 # Where nothing under crates/ has changed since OUT was made, it is not made again: the file OUT.from says what it was made
 # from, what came out, and which code it is. A new OUT is built beside the old one and takes its place only when it is
-# whole, so a build that fails leaves the old one as it was.
+# whole, so a build that fails leaves the old one as it was. Beside OUT stands the link libfermion.so.0, the name under which
+# a program that is linked with OUT looks for it.
 set -euo pipefail
 cd "$(dirname "$0")/.."
 
@@ -30,17 +31,17 @@ flock 9 # two tests may ask for it at once
 sources() { { rt version; uname -m; sha256sum tools/shared_object.sh crates.txt; find crates -type f -exec sha256sum {} + | sort; } | sha256sum; }
 results() { cat "$1" "$archive" 2>/dev/null | sha256sum; }
 from=$(sources)
-if [ -f "$out" ] && [ -f "$archive" ] && [ "$(head -n 2 "$out.from" 2>/dev/null)" = "$from"$'\n'"$(results "$out")" ]; then
+if [ -f "$out" ] && [ -f "$(dirname "$out")/libfermion.so.0" ] && [ -f "$archive" ] && [ "$(head -n 2 "$out.from" 2>/dev/null)" = "$from"$'\n'"$(results "$out")" ]; then
     echo "$out: $(tail -n 1 "$out.from")"
     exit
 fi
 
 need gcc "it links the shared object"
-work=$(mktemp -d)
+work=$(mktemp -d "$PWD/target/shared_object.XXXXXX")
 new=$out.new
 trap 'rm -rf "$work" "$new" "$new.from"' EXIT
 
-logged() { # COMMAND..: its lines go to the log, those of rt to standard error too; where it fails, all that it said
+logged() { # COMMAND..: its lines go to the log, those of rt to standard error too; where it fails, all that was said
     "$@" 2>&1 | tee -a "$log" | { grep --line-buffered '^rt: ' >&2 || true; } && return
     cat "$log" >&2
     say "this failed: $1 $2. $([ -f "$out" ] && echo "$out is as it was" || echo "Nothing was made")"
@@ -76,14 +77,15 @@ compile_here() { # WHERE-TO: the module for this machine's processor
     own=$home/on/$(uname -m)
     clang=$own/toolchain/bin/clang
     keep_module "$home" "$own"
-    "$clang" --target=x86_64-unknown-linux-gnu -Xclang -disable-llvm-passes -S -emit-llvm -x ir "$work/module.bc" -o "$work/raw.ll"
+    logged "$clang" --target=x86_64-unknown-linux-gnu -Xclang -disable-llvm-passes -S -emit-llvm -x ir "$work/module.bc" -o "$work/raw.ll"
     sed -e '/^target /d' -e 's/"target-cpu"="x86-64"//g; s/"target-features"="[^"]*"//g; s/"probe-stack"="[^"]*"//g' \
         "$work/raw.ll" >"$work/own.ll"
-    "$clang" --target="$(uname -m)-unknown-linux-gnu" -Wno-override-module -O3 -fPIC -c -x ir "$work/own.ll" -o "$1"
+    logged "$clang" --target="$(uname -m)-unknown-linux-gnu" -Wno-override-module -O3 -fPIC -c -x ir "$work/own.ll" -o "$1"
 }
 
-# Without the compiler's start files there is nothing to write to in it: the library has no data of its own.
-link() { gcc -shared -nostartfiles -Wl,-soname,libfermion.so.0 -o "$new" "$@"; }
+# Without the compiler's start files, and with its calls of memcpy and memset bound when it is loaded, nothing in the library
+# can be written to.
+link() { logged gcc -shared -nostartfiles -Wl,-soname,libfermion.so.0,-z,relro,-z,now -o "$new" "$@"; }
 
 : >"$log"
 say "proving and compiling: rt staticlib fermion (4 minutes from nothing, half a minute where all is proved already)"
@@ -99,5 +101,6 @@ else
 fi
 printf '%s\n' "$from" "$(results "$new")" "$kind" >"$new.from"
 mv -f "$new" "$out"
+ln -sfn "$(basename "$out")" "$(dirname "$out")/libfermion.so.0"
 mv -f "$new.from" "$out.from"
 echo "$out: $kind"

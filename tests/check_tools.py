@@ -1,0 +1,359 @@
+#!/usr/bin/env python3
+"""The scripts of tools/ and the printing example, on what goes wrong around them: a build that fails, a tool that is not
+there, no argument, bytes that are no record. The scripts run in a copy of a few files, with stand-ins for the toolchain and
+the compiler, so the library of this repository is not touched."""
+import glob
+import hashlib
+import os
+import re
+import shutil
+import struct
+import subprocess
+import sys
+import tempfile
+import time
+
+ROOT = os.path.dirname(os.path.dirname(os.path.abspath(__file__)))
+PRINT = os.path.join(ROOT, "examples", "print_record.py")
+OLD = b"a library that was built before"
+COMMANDS = """bash sh env dirname basename realpath readlink mkdir sed cat sha256sum find sort head tail mktemp rm mv cp ln chmod
+    flock grep tee touch sleep""".split()
+UNAME = "#!/bin/sh\necho x86_64\n"  # the way of x86-64, where gcc alone makes the library of the archive
+RT = """#!/bin/sh
+[ "$1" = version ] && echo kit && exit
+echo "$*" >>calls
+mkdir -p target/staticlib && echo an archive >target/staticlib/libfermion.a
+echo 'rt: modes proved'
+"""
+RT_THAT_FAILS = RT + "echo 'rt: lent NOT PROVED'\nexit 1\n"
+RT_THAT_WAITS = RT + "i=0\nwhile [ ! -f go ]; do i=$((i + 1)); [ $i -le 200 ] || exit 1; sleep 0.1; done\n"
+GCC = """#!/bin/sh
+while [ "$1" != -o ]; do shift; done
+printf 'a library' >"$2"
+"""
+GCC_THAT_FAILS = GCC + "echo 'ld: no room' >&2\nexit 1\n"
+
+
+class Copy:
+    """A folder with the scripts, one source file, a library built before, and a PATH of its own."""
+
+    def __init__(self, **stand_ins):
+        self.folder = tempfile.mkdtemp()
+        self.root, self.path = os.path.join(self.folder, "a tree"), os.path.join(self.folder, "bin")
+        self.library = os.path.join(self.root, "target", "native", "libfermion.so")
+        shutil.copytree(os.path.join(ROOT, "tools"), os.path.join(self.root, "tools"))
+        self.write("crates.txt", b"fermion: modes\n")
+        self.write("crates/fermion/src/lib.rt", b"// a source\n")
+        self.write("target/native/libfermion.so", OLD)
+        os.mkdir(self.path)
+        for name in COMMANDS:
+            os.symlink(shutil.which(name), os.path.join(self.path, name))
+        for name, text in dict({"uname": UNAME}, **stand_ins).items():
+            with open(os.path.join(self.path, name), "w", encoding="utf-8") as file:
+                file.write(text)
+            os.chmod(os.path.join(self.path, name), 0o755)
+
+    def __enter__(self):
+        return self
+
+    def __exit__(self, *_):
+        shutil.rmtree(self.folder)
+
+    def write(self, name, data):
+        os.makedirs(os.path.dirname(os.path.join(self.root, name)), exist_ok=True)
+        with open(os.path.join(self.root, name), "wb") as file:
+            file.write(data)
+
+    def read(self, name="target/native/libfermion.so"):
+        try:
+            with open(os.path.join(self.root, name), "rb") as file:
+                return file.read()
+        except FileNotFoundError:
+            return None
+
+    def start(self, *words):
+        return subprocess.Popen([os.path.join(self.root, words[0]), *words[1:]], env={"PATH": self.path}, cwd=self.root,
+                                stdin=subprocess.DEVNULL, stdout=subprocess.PIPE, stderr=subprocess.PIPE, text=True)
+
+    def run(self, *words):
+        """Status, standard output, standard error."""
+        run = self.start(*words)
+        out, err = run.communicate(timeout=60)
+        return run.returncode, out, err
+
+    def beside(self):
+        """The files in the library's folder but for the lock."""
+        return sorted(name for name in os.listdir(os.path.dirname(self.library)) if not name.endswith(".lock"))
+
+
+def expect(faults, good, what):
+    if not good:
+        faults.append(what)
+
+
+def one_sentence(err, *names):
+    """One line that has the names, and that no shell and no interpreter wrote."""
+    return err.count("\n") == 1 and all(name in err for name in names) and not re.search(r"Traceback|not found|unbound|line \d+:", err)
+
+
+# tools/shared_object.sh
+
+def a_build_that_fails_leaves_the_library(**stand_ins):
+    faults = []
+    with Copy(**stand_ins) as copy:
+        copy.write("target/native/libfermion.so.from", b"what it was made from\n")
+        status, out, err = copy.run("tools/shared_object.sh")
+        expect(faults, status != 0, f"status {status}")
+        expect(faults, copy.read() == OLD, f"the library is {copy.read()!r}")
+        expect(faults, copy.read("target/native/libfermion.so.from") == b"what it was made from\n", "what it was made from is another")
+        expect(faults, copy.beside() == ["libfermion.so", "libfermion.so.from"], f"beside it: {copy.beside()}")
+        expect(faults, not out, f"standard output: {out!r}")
+        expect(faults, ("NOT PROVED" if "NOT" in stand_ins["rt"] else "no room") in err, f"standard error: {err!r}")
+    return faults
+
+
+def a_proof_that_fails_leaves_the_library():
+    return a_build_that_fails_leaves_the_library(rt=RT_THAT_FAILS, gcc=GCC)
+
+
+def a_link_that_fails_leaves_the_library():
+    return a_build_that_fails_leaves_the_library(rt=RT, gcc=GCC_THAT_FAILS)
+
+
+def a_build_replaces_the_library_and_says_which():
+    faults = []
+    with Copy(rt=RT, gcc=GCC) as copy:
+        status, out, err = copy.run("tools/shared_object.sh")
+        expect(faults, (status, copy.read()) == (0, b"a library"), f"status {status}, the library is {copy.read()!r}: {err}")
+        expect(faults, out == f"{copy.library}: x86-64, the archive's own code\n", f"standard output: {out!r}")
+        expect(faults, copy.beside() == ["libfermion.so", "libfermion.so.0", "libfermion.so.from"], f"beside it: {copy.beside()}")
+        expect(faults, copy.read("target/native/libfermion.so.0") == b"a library", "the name for the loader leads elsewhere")
+    return faults
+
+
+def what_is_built_is_not_built_again():
+    faults = []
+    with Copy(rt=RT, gcc=GCC) as copy:
+        first, second = copy.run("tools/shared_object.sh"), copy.run("tools/shared_object.sh")
+        expect(faults, first[0] == 0 and second[:2] == first[:2], f"{first} and then {second}")
+        expect(faults, copy.read("calls") == b"staticlib fermion\n", f"calls of rt: {copy.read('calls')}")
+        copy.write("crates/fermion/src/lib.rt", b"// another source\n")
+        copy.run("tools/shared_object.sh")
+        expect(faults, copy.read("calls") == 2 * b"staticlib fermion\n", "a changed source is not built")
+    return faults
+
+
+def a_library_that_was_changed_is_built_again():
+    faults = []
+    with Copy(rt=RT, gcc=GCC) as copy:
+        copy.run("tools/shared_object.sh")
+        copy.write("target/native/libfermion.so", b"half a libr")
+        status = copy.run("tools/shared_object.sh")[0]
+        expect(faults, (status, copy.read()) == (0, b"a library"), f"status {status}, the library is {copy.read()!r}")
+    return faults
+
+
+def a_tree_that_was_moved_names_its_own_library():
+    faults = []
+    with Copy(rt=RT, gcc=GCC) as copy:
+        copy.run("tools/shared_object.sh")
+        os.rename(copy.root, copy.root + " moved")
+        copy.root += " moved"
+        status, out, _ = copy.run("tools/shared_object.sh")
+        expect(faults, status == 0 and out.startswith(copy.root + "/target/native/libfermion.so: "), f"standard output: {out!r}")
+    return faults
+
+
+def it_shows_what_it_does_while_it_does_it():
+    """rt goes on only when its first line has been seen on standard error."""
+    with Copy(rt=RT_THAT_WAITS, gcc=GCC) as copy:
+        run, seen = copy.start("tools/shared_object.sh"), []
+        for line in run.stderr:
+            seen.append(line)
+            if "modes proved" in line:
+                copy.write("go", b"")
+        run.stdout.read()
+        status = run.wait()
+    faults = []
+    expect(faults, status == 0, f"rt waited in vain for its line to be seen; status {status}, seen: {seen}")
+    expect(faults, "rt staticlib fermion" in seen[0] if seen else False, f"the first line does not say what is run: {seen}")
+    return faults
+
+
+def without_rt_a_sentence_says_so():
+    faults = []
+    for words in (["tools/shared_object.sh"], ["tools/run.sh", "commutator"], ["tools/install.sh", "there"]):
+        with Copy(gcc=GCC) as copy:
+            copy.write("target/bin/commutator", b"#!/bin/sh\n")
+            os.chmod(os.path.join(copy.root, "target/bin/commutator"), 0o755)
+            status, out, err = copy.run(*words)
+            expect(faults, status != 0 and not out and one_sentence(err, "rt ", "PATH", "docs/INSTALL.md"), f"{words}: {status} {out!r} {err!r}")
+            expect(faults, copy.read() == OLD, f"{words}: the library is {copy.read()!r}")
+            expect(faults, not os.path.exists(os.path.join(copy.root, "there")), "something was installed")
+    return faults
+
+
+def without_gcc_a_sentence_says_so():
+    faults = []
+    with Copy(rt=RT) as copy:
+        status, out, err = copy.run("tools/shared_object.sh")
+        expect(faults, status != 0 and not out and one_sentence(err, "gcc", "PATH"), f"{status} {out!r} {err!r}")
+        expect(faults, (copy.read(), copy.read("calls")) == (OLD, None), "the library is gone, or rt was run in vain")
+    return faults
+
+
+# tools/run.sh and tools/install.sh
+
+def without_an_argument_a_sentence_says_how():
+    faults = []
+    for words in (["tools/run.sh"], ["tools/run.sh", ""], ["tools/run.sh", "a", "b"], ["tools/install.sh"], ["tools/install.sh", ""],
+                  ["tools/install.sh", "a", "b"], ["tools/install.sh", "--prefix=a"]):
+        with Copy(rt=RT, gcc=GCC) as copy:
+            status, out, err = copy.run(*words)
+            expect(faults, status != 0 and not out and one_sentence(err, "usage: " + words[0]), f"{words}: {status} {out!r} {err!r}")
+            expect(faults, copy.read("calls") is None, f"{words}: rt was run")
+    return faults
+
+
+def help_is_given():
+    faults = []
+    for script in "tools/run.sh", "tools/install.sh", "tools/shared_object.sh":
+        for word in "--help", "-h":
+            with Copy() as copy:
+                status, out, err = copy.run(script, word)
+                expect(faults, status == 0 and script in out and not err, f"{script} {word}: {status} {out!r} {err!r}")
+    return faults
+
+
+def a_program_that_is_not_there():
+    with Copy(rt=RT) as copy:
+        status, out, err = copy.run("tools/run.sh", "commutator")
+    return [] if status != 0 and not out and one_sentence(err, "rt check commutator") else [f"{status} {out!r} {err!r}"]
+
+
+# examples/print_record.py
+
+def record(m, *terms, header=()):
+    """A record of (annihilation word, creation word, coefficient), with other numbers at some places of its header."""
+    n = len(terms)
+    numbers = [1, m, n, 32, 32 + 8 * n, 32 + 16 * n, 32 + 24 * n, 0]
+    for place, number in header:
+        numbers[place] = number
+    ann, cre, coeff = zip(*terms) if terms else ((), (), ())
+    return struct.pack(f"<8I{2 * n}Q{n}q", *numbers, *ann, *cre, *coeff)
+
+
+def printed(data, *words):
+    run = subprocess.run([sys.executable, PRINT, *words], input=data, capture_output=True, timeout=60)
+    return run.returncode, run.stdout.decode(), run.stderr.decode()
+
+
+def sentences():
+    """The refusals in words, by number."""
+    with open(os.path.join(ROOT, "docs", "RECORD.md"), encoding="utf-8") as file:
+        return {int(number): words for number, words in re.findall(r"^\| (\d+) \| ([^|]+) \|", file.read().split("\n## Refusals\n")[1], re.M)}
+
+
+def a_record_and_a_reply_are_printed():
+    faults, words = [], sentences()
+    expected = [
+        (record(2, (1, 1, 1), (2, 2, -1)), "2 modes, 2 terms\n       1  {0|0}\n      -1  {1|1}\n"),
+        (record(64), "64 modes, 0 terms\n"),
+        (record(1, (1, 0, -2 ** 60)), "1 mode, 1 term\n-1152921504606846976  {|0}\n"),
+        (record(64, (2 ** 63, 5, 7)), "64 modes, 1 term\n       7  {0,2|63}\n"),
+        (b"refused 6 0 0\n", f"refused with 6: {words[6]}\n"),
+        (b"refused 1 2 0\n", f"refused with 1: second record: {words[1]}\n"),
+        (b"refused 3 1 2047\n", f"refused with 3: first record: {words[3]}, at term 2047 counted from 0\n"),
+    ]
+    for data, lines in expected:
+        got = printed(data)
+        expect(faults, got == (0, lines, ""), f"{data[:40]!r}: {got}, expected {lines!r}")
+    return faults
+
+
+def other_bytes_are_named_in_a_sentence():
+    faults, good = [], record(2, (1, 1, 1))
+    others = [b"", b"x", b"abc\n", good[:31], good[:55], good + b"\0", good + good, bytes(32), bytes(100), b"\xff" * 60, b"refused",
+              b"refused \n", b"refused 1\n", b"refused 0 0 0\n", b"refused 99 0 0\n", b"refused 1 9 0\n", b"refused \xff\xfe 1\n",
+              b"refused 1 1 0\nrefused 1 1 0\n", "refused \u0661 1 0\n".encode(), record(0), record(65), record(2 ** 32 - 1)]
+    others += [record(2, (1, 1, 1), header=[(place, number)]) for place in range(8) for number in (2 ** 32 - 1, 7)]
+    others += [record(2, header=[(2, 2049), (4, 32 + 8 * 2049), (5, 32 + 16 * 2049), (6, 32 + 24 * 2049)]) + bytes(24 * 2049)]
+    for data in others:
+        status, out, err = printed(data)
+        expect(faults, status == 1 and not out and one_sentence(err, "print_record.py: standard input: "), f"{data[:40]!r}: {status} {out!r} {err[-300:]!r}")
+    return faults
+
+
+def files_that_cannot_be_read_are_named():
+    faults, good = [], os.path.join(ROOT, "examples", "hop.record")
+    with tempfile.TemporaryDirectory() as folder:
+        for path in os.path.join(folder, "none"), folder, "":
+            status, out, err = printed(b"", path)
+            expect(faults, status == 1 and not out and one_sentence(err, f"print_record.py: {path}: "), f"{path!r}: {status} {out!r} {err!r}")
+        status, out, err = printed(b"", os.path.join(folder, "none"), good)
+        expect(faults, status == 1 and out == "2 modes, 1 term\n       1  {0|1}\n" and one_sentence(err, "none"), f"the next one: {status} {out!r} {err!r}")
+    return faults
+
+
+def the_printer_gives_help():
+    return [f"{word}: {got}" for word in ("--help", "-h") for got in [printed(b"", word)]
+            if got[0] != 0 or "examples/print_record.py FILE" not in got[1] or got[2]]
+
+
+def the_printers_sentences_are_the_documents():
+    faults, words = [], sentences()
+    for number in range(1, 12):
+        got = printed(b"refused %d 0 0\n" % number)
+        expect(faults, got[0] == 0 and got[1].startswith(f"refused with {number}: {words[number]}"), f"{number}: {got[1]!r}, expected {words[number]!r}")
+    return faults
+
+
+# all scripts
+
+def every_script_can_be_read_by_its_shell():
+    scripts = [path for path in glob.glob(os.path.join(ROOT, "*", "*.sh")) + glob.glob(os.path.join(ROOT, ".ci", "*")) if os.path.isfile(path)]
+    faults = [] if len(scripts) >= 8 else [f"only {scripts} were found"]
+    for path in scripts:
+        with open(path, encoding="utf-8") as file:
+            shell = "bash" if "bash" in file.readline() else "sh"
+        run = subprocess.run([shell, "-n", path], capture_output=True, text=True)
+        expect(faults, run.returncode == 0, f"{path}: {run.stderr}")
+        expect(faults, os.access(path, os.X_OK), f"{path}: has no run bit")
+    return faults
+
+
+def the_library_of_this_repository():
+    path = os.path.join(ROOT, "target", "native", "libfermion.so")
+    if not os.path.exists(path):
+        return None
+    with open(path, "rb") as file:
+        return hashlib.sha256(file.read()).hexdigest()
+
+
+TESTS = [
+    a_proof_that_fails_leaves_the_library, a_link_that_fails_leaves_the_library, a_build_replaces_the_library_and_says_which,
+    what_is_built_is_not_built_again, a_library_that_was_changed_is_built_again, a_tree_that_was_moved_names_its_own_library,
+    it_shows_what_it_does_while_it_does_it, without_rt_a_sentence_says_so, without_gcc_a_sentence_says_so,
+    without_an_argument_a_sentence_says_how, help_is_given, a_program_that_is_not_there, a_record_and_a_reply_are_printed,
+    other_bytes_are_named_in_a_sentence, files_that_cannot_be_read_are_named, the_printer_gives_help,
+    the_printers_sentences_are_the_documents, every_script_can_be_read_by_its_shell,
+]
+
+
+def main():
+    failed, before, start = 0, the_library_of_this_repository(), time.monotonic()
+    for test in TESTS:
+        faults = test()
+        failed += bool(faults)
+        print(f"{test.__name__.replace('_', ' ')}: {'ok' if not faults else 'NOT SO'}")
+        for fault in faults:
+            print(f"  {fault}")
+    untouched = before == the_library_of_this_repository()
+    print(f"the library of this repository was not touched: {'ok' if untouched else 'NOT SO'}")
+    print(f"{time.monotonic() - start:.0f} seconds")
+    failed += not untouched
+    print(f"{len(TESTS) + 1 - failed} passed, {failed} failed")
+    raise SystemExit(1 if failed else 0)
+
+
+main()
