@@ -37,7 +37,8 @@ static void stop_if_refused(const uint64_t answer[8], const char *what)
 {
     if (answer[0] == FERMION_OK)
         return;
-    fprintf(stderr, "%s: refused with %d, operand %d, place %d\n", what, (int)answer[0], (int)answer[1], (int)answer[2]);
+    fprintf(stderr, "%s: refused with %d, operand %d, place %d\n", what, (int)answer[0], (int)answer[1],
+            (int)answer[2]);
     exit(1);
 }
 
@@ -62,7 +63,7 @@ int main(void)
     uint64_t n = get(out + 8, 4);
     printf("fermion %s: %d bytes, %d terms\n", FERMION_VERSION, (int)answer[3], (int)n);
     for (uint64_t i = 0; i < n; i++)
-        printf("%3" PRId64 " creates %" PRIu64 ", annihilates %" PRIu64 "\n", (int64_t)get(out + 32 + 16 * n + 8 * i, 8),
-               get(out + 32 + 8 * n + 8 * i, 8), get(out + 32 + 8 * i, 8));
+        printf("%3" PRId64 " creates %" PRIu64 ", annihilates %" PRIu64 "\n",
+               (int64_t)get(out + 32 + 16 * n + 8 * i, 8), get(out + 32 + 8 * n + 8 * i, 8), get(out + 32 + 8 * i, 8));
     return 0;
 }
