@@ -36,8 +36,8 @@ def library():
                          "by its absolute path in FERMION_LIB")
     data = file.read_bytes()
     machine = MACHINES.get(int.from_bytes(data[18:20], "little")) if data[:5] == b"\x7fELF\x02" else None
-    if machine is None:
-        raise SystemExit(f"fermion: {file} is no shared object for x86-64 or aarch64")
+    if machine is None or b"fermion_check" not in data:
+        raise SystemExit(f"fermion: {file} is not the library for x86-64 or aarch64")
     return data, machine
 
 
@@ -90,6 +90,14 @@ def write_wheel(folder, tag, files):
 def build_wheel(wheel_directory, config_settings=None, metadata_directory=None):
     data, machine = library()
     return write_wheel(wheel_directory, f"py3-none-linux_{machine}", dict(package(), **{"fermion/libfermion.so": data}))
+
+
+def prepare_metadata_for_build_wheel(metadata_directory, config_settings=None):
+    for name, data in about(f"py3-none-linux_{library()[1]}").items():
+        file = Path(metadata_directory) / name
+        file.parent.mkdir(parents=True, exist_ok=True)
+        file.write_bytes(data)
+    return f"fermion-{version()}.dist-info"
 
 
 def build_editable(wheel_directory, config_settings=None, metadata_directory=None):
