@@ -61,7 +61,8 @@ installs_at_a_relative_path_with_spaces() {
 }
 
 installs_under_destdir() {
-    DESTDIR=$work/staged "$repository/tools/install.sh" /opt/fermion && diff -r "$first" "$work/staged/opt/fermion" && [ ! -e /opt/fermion/lib/libfermion.so ]
+    DESTDIR=$work/staged "$repository/tools/install.sh" "/no-such-folder-$$/fermion" && diff -r "$first" "$work/staged/no-such-folder-$$/fermion" &&
+        [ ! -e "/no-such-folder-$$" ]
 }
 
 leaves_nothing_half_written() { # where lib is a file, no installation is possible

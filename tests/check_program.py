@@ -188,7 +188,8 @@ def check_example(program):
         data = one.read() + two.read()
     program.judge("the example of the README", data, records.EXAMPLE)
     for said, text in ((whole(data)[1], "2 modes, 2 terms\n       1  {0|0}\n      -1  {1|1}\n"),
-                       (whole(b"")[1], "refused with 1: first record: header, length, mode count or number of terms break the rules\n")):
+                       (whole(b"")[1], "refused with 1: first record: the header, the length, the mode count (1 to 64), the number of terms "
+                                        "(at most 2,048) or the lengths of the lists break the rules\n")):
         printed = subprocess.run(PRINT, input=said, capture_output=True, timeout=MOST).stdout.decode()
         program.tally.same("the example's script prints the reply in words", printed, text, said)
 

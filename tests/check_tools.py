@@ -276,7 +276,7 @@ def other_bytes_are_named_in_a_sentence():
     others = [b"", b"x", b"abc\n", good[:31], good[:55], good + b"\0", good + good, bytes(32), bytes(100), b"\xff" * 60, b"refused",
               b"refused \n", b"refused 1\n", b"refused 0 0 0\n", b"refused 99 0 0\n", b"refused 1 9 0\n", b"refused \xff\xfe 1\n",
               b"refused 1 1 0\nrefused 1 1 0\n", "refused \u0661 1 0\n".encode(), record(0), record(65), record(2 ** 32 - 1)]
-    others += [record(2, (1, 1, 1), header=[(place, number)]) for place in range(8) for number in (2 ** 32 - 1, 7)]
+    others += [record(2, (1, 1, 1), header=[(place, number)]) for place in range(8) for number in (2 ** 32 - 1, 70)]
     others += [record(2, header=[(2, 2049), (4, 32 + 8 * 2049), (5, 32 + 16 * 2049), (6, 32 + 24 * 2049)]) + bytes(24 * 2049)]
     for data in others:
         status, out, err = printed(data)
