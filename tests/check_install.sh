@@ -9,7 +9,8 @@ work=$(mktemp -d)
 trap 'rm -rf "$work"' EXIT
 mkdir "$work/elsewhere" "$work/tmp"
 unset FERMION_LIB FERMION_LIB_DIR PYTHONPATH PKG_CONFIG_PATH LD_LIBRARY_PATH DESTDIR CARGO_TARGET_DIR
-export TMPDIR=$work/tmp PYTHONDONTWRITEBYTECODE=1 PIP_DISABLE_PIP_VERSION_CHECK=1 PIP_ROOT_USER_ACTION=ignore PIP_CONFIG_FILE=/dev/null
+export TMPDIR=$work/tmp PYTHONDONTWRITEBYTECODE=1
+export PIP_DISABLE_PIP_VERSION_CHECK=1 PIP_ROOT_USER_ACTION=ignore PIP_CONFIG_FILE=/dev/null
 first=$work/first there=$work/there passed=0 failed=0
 expected="fermion 0.1.0: 80 bytes, 2 terms
   1 creates 1, annihilates 1
@@ -35,11 +36,13 @@ installs() { "$repository/tools/install.sh" "$first"; }
 
 has_all() {
     local name
-    for name in include/fermion.h lib/libfermion.so.0.1.0 lib/pkgconfig/fermion.pc lib/python/fermion/{__init__.py,py.typed,libfermion.so} \
-        share/fermion/rust/{Cargo.toml,build.rs,src/lib.rs,LICENSE,NOTICE} share/doc/fermion/{INSTALL.md,RECORD.md,example.c,LICENSE,NOTICE}; do
+    for name in include/fermion.h lib/libfermion.so.0.1.0 lib/pkgconfig/fermion.pc \
+        lib/python/fermion/{__init__.py,py.typed,libfermion.so} share/fermion/rust/{Cargo.toml,build.rs,src/lib.rs} \
+        share/fermion/rust/{LICENSE,NOTICE} share/doc/fermion/{INSTALL.md,RECORD.md,example.c,LICENSE,NOTICE}; do
         [ -f "$first/$name" ] || { echo "$name is not there" && return 1; }
     done
-    same "$(readlink "$first/lib/libfermion.so") $(readlink "$first/lib/libfermion.so.0")" "libfermion.so.0 libfermion.so.0.1.0" || return
+    same "$(readlink "$first/lib/libfermion.so")" libfermion.so.0 || return
+    same "$(readlink "$first/lib/libfermion.so.0")" libfermion.so.0.1.0 || return
     cmp "$first/include/fermion.h" "$repository/include/fermion.h" || return
     cmp "$first/lib/libfermion.so" "$first/lib/python/fermion/libfermion.so" || return
     same "$(files_of "$first" | grep -E '\.new|__pycache__|/target/')" "" || return
@@ -61,8 +64,9 @@ installs_at_a_relative_path_with_spaces() {
 }
 
 installs_under_destdir() {
-    DESTDIR=$work/staged "$repository/tools/install.sh" "/no-such-folder-$$/fermion" && diff -r "$first" "$work/staged/no-such-folder-$$/fermion" &&
-        [ ! -e "/no-such-folder-$$" ]
+    local prefix=/no-such-folder-$$/fermion
+    DESTDIR=$work/staged "$repository/tools/install.sh" "$prefix" && diff -r "$first" "$work/staged$prefix" &&
+        [ ! -e "$prefix" ]
 }
 
 leaves_nothing_half_written() { # where lib is a file, no installation is possible
@@ -70,7 +74,8 @@ leaves_nothing_half_written() { # where lib is a file, no installation is possib
     if "$repository/tools/install.sh" "$work/unfit"; then
         echo "it claims to have installed" && return 1
     fi
-    same "$(files_of "$work/unfit" | grep '\.new')" "" && same "$(cd "$repository" && find target -maxdepth 1 -name 'install.*')" ""
+    same "$(files_of "$work/unfit" | grep '\.new')" "" &&
+        same "$(cd "$repository" && find target -maxdepth 1 -name 'install.*')" ""
 }
 
 c_names_itself() {
@@ -104,9 +109,13 @@ C
 }
 
 refusals_by_number() { # in the order of docs/RECORD.md's table
-    local names="OK MALFORMED WORD_OUTSIDE OUT_OF_ORDER ZERO_COEFF TOO_HEAVY MODES_DIFFER ROWS_DO_NOT_FIT PRODUCT_TOO_HEAVY RESULT_TOO_HEAVY
-        TOO_MANY_TERMS OUTPUT_TOO_SHORT OCCUPATION_OUTSIDE NOT_FINITE BAD_BASIS" name number=0
-    { echo '#include <fermion.h>' && for name in $names; do echo "typedef char is_${name}[FERMION_$name == $((number++)) ? 1 : -1];"; done; } >numbers.c
+    local names name number=0
+    names="OK MALFORMED WORD_OUTSIDE OUT_OF_ORDER ZERO_COEFF TOO_HEAVY MODES_DIFFER ROWS_DO_NOT_FIT PRODUCT_TOO_HEAVY
+        RESULT_TOO_HEAVY TOO_MANY_TERMS OUTPUT_TOO_SHORT OCCUPATION_OUTSIDE NOT_FINITE BAD_BASIS"
+    echo '#include <fermion.h>' >numbers.c
+    for name in $names; do
+        echo "typedef char is_${name}[FERMION_$name == $((number++)) ? 1 : -1];" >>numbers.c
+    done
     gcc -std=c99 "-I$there/include" -c numbers.c -o numbers.o || return
     same "$(grep -cE '^    FERMION_[A-Z_]+ = [0-9]+' "$there/include/fermion.h")" 15
 }
@@ -117,17 +126,19 @@ documented_line() { # as the example and docs/INSTALL.md have it
     if [ -z "$line" ] || ! grep -qF "$line" "$there/share/doc/fermion/INSTALL.md"; then
         echo "the line is not in both documents" && return 1
     fi
-    cp "$there/share/doc/fermion/example.c" . && PKG_CONFIG_PATH=$there/lib/pkgconfig bash -c "$line" && same "$(./a.out)" "$expected"
+    cp "$there/share/doc/fermion/example.c" . && PKG_CONFIG_PATH=$there/lib/pkgconfig bash -c "$line" &&
+        same "$(./a.out)" "$expected"
 }
 
 as_cpp() {
     # shellcheck disable=SC2046 # words are wanted
-    g++ -std=c++11 -Wall -Wextra -Wpedantic -Werror -x c++ example.c -x none $(flags --cflags --libs) -o cpp && same "$(./cpp)" "$expected"
+    g++ -std=c++11 -Wall -Wextra -Wpedantic -Werror -x c++ example.c -x none $(flags --cflags --libs) -o cpp &&
+        same "$(./cpp)" "$expected"
 }
 
 in_a_folder_with_spaces() {
-    PKG_CONFIG_PATH="$PWD/in a/place with spaces/lib/pkgconfig" bash -c 'eval cc example.c -o spaces $(pkg-config --cflags --libs fermion)' &&
-        same "$(./spaces)" "$expected"
+    export PKG_CONFIG_PATH="$PWD/in a/place with spaces/lib/pkgconfig"
+    eval "cc example.c -o spaces $(pkg-config --cflags --libs fermion)" && same "$(./spaces)" "$expected"
 }
 
 statically() {
@@ -148,33 +159,29 @@ PY
     same "$(PYTHONPATH=$1 python3 use.py "$1")" "1 {0|0} - 1 {1|1}"
 }
 
-pip_offline() { # WORDS..
-    http_proxy=http://127.0.0.1:9 https_proxy=http://127.0.0.1:9 PIP_NO_INDEX=1 python3 -m pip --no-cache-dir "$@" "$repository/bindings/python"
+pip_offline() { # WORDS..: with a network that leads nowhere
+    http_proxy=http://127.0.0.1:9 https_proxy=http://127.0.0.1:9 PIP_NO_INDEX=1 \
+        python3 -m pip --no-cache-dir "$@" "$repository/bindings/python"
 }
 
 by_pip() {
-    pip_offline install --target "$work/site" && from_python "$work/site" && python3 - "$work/site" <<'PY'
-import base64, csv, hashlib, pathlib, sys
-site = pathlib.Path(sys.argv[1])
-rows = list(csv.reader((site / "fermion-0.1.0.dist-info" / "RECORD").open(encoding="utf-8")))
-checked = {name for name, digest, length in rows if digest and not name.startswith("..") for data in [(site / name).read_bytes()]
-           if digest == "sha256=" + base64.urlsafe_b64encode(hashlib.sha256(data).digest()).rstrip(b"=").decode() and int(length) == len(data)}
-assert checked >= {"fermion/__init__.py", "fermion/py.typed", "fermion/libfermion.so", "fermion-0.1.0.dist-info/licenses/LICENSE",
-                   "fermion-0.1.0.dist-info/licenses/NOTICE"}, checked
-PY
+    pip_offline install --target "$work/site" && from_python "$work/site" &&
+        cmp "$work/site/fermion/libfermion.so" "$there/lib/libfermion.so" &&
+        ls "$work/site/fermion/py.typed" "$work/site"/fermion-0.1.0.dist-info/licenses/{LICENSE,NOTICE}
 }
 
-wheels_are_the_same_bytes() {
+wheels_are_right() { # the same bytes twice, and RECORD has every file with its hash and length
     pip_offline wheel -w "$work/w1" && pip_offline wheel -w "$work/w2" && diff -r "$work/w1" "$work/w2" &&
-        same "$(ls "$work/w1")" "fermion-0.1.0-py3-none-linux_$(uname -m).whl" && python3 - "$work/w1" <<'PY'
-import base64, csv, hashlib, io, pathlib, sys, zipfile
-wheel = zipfile.ZipFile(next(pathlib.Path(sys.argv[1]).glob("*.whl")))
-rows = {row[0]: row[1:] for row in csv.reader(io.TextIOWrapper(wheel.open("fermion-0.1.0.dist-info/RECORD"), encoding="utf-8"))}
+        same "$(ls "$work/w1")" "fermion-0.1.0-py3-none-linux_$(uname -m).whl" && python3 - "$work"/w1/*.whl <<'PY'
+import base64, csv, hashlib, io, sys, zipfile
+wheel = zipfile.ZipFile(sys.argv[1])
+listed = io.TextIOWrapper(wheel.open("fermion-0.1.0.dist-info/RECORD"), encoding="utf-8")
+rows = {row[0]: row[1:] for row in csv.reader(listed)}
 assert set(rows) == set(wheel.namelist()), "RECORD names other files"
-for name, (digest, length) in rows.items():
+for name, row in rows.items():
     data = wheel.read(name)
-    right = ["sha256=" + base64.urlsafe_b64encode(hashlib.sha256(data).digest()).rstrip(b"=").decode(), str(len(data))]
-    assert [digest, length] == (["", ""] if name.endswith("/RECORD") else right), name
+    digest = base64.urlsafe_b64encode(hashlib.sha256(data).digest()).rstrip(b"=").decode()
+    assert row == (["", ""] if name.endswith("/RECORD") else ["sha256=" + digest, str(len(data))]), name
 PY
 }
 
@@ -188,7 +195,15 @@ pip_without_a_library() {
 
 from_rust() {
     mkdir -p rust/src
-    printf '[package]\nname = "user"\nversion = "1.0.0"\nedition = "2021"\n\n[dependencies]\nfermion = { path = "%s" }\n' "$there/share/fermion/rust" >rust/Cargo.toml
+    cat >rust/Cargo.toml <<TOML
+[package]
+name = "user"
+version = "1.0.0"
+edition = "2021"
+
+[dependencies]
+fermion = { path = "$there/share/fermion/rust" }
+TOML
     cat >rust/src/main.rs <<'RS'
 use fermion::{adjoint, commutator, word, Record};
 
@@ -221,7 +236,7 @@ check "the C example with a library in a folder with spaces" in_a_folder_with_sp
 [ "$(uname -m)" != x86_64 ] || check "the C example with the archive" statically
 check "the Python package" from_python "$there/lib/python"
 check "pip installs without a network" by_pip
-check "two wheels are the same bytes, and RECORD is right" wheels_are_the_same_bytes
+check "two wheels are the same bytes, and RECORD is right" wheels_are_right
 check "pip says in a sentence that the library is missing" pip_without_a_library
 check "a Rust program on the crate" from_rust
 echo "$passed passed, $failed failed"

@@ -73,11 +73,13 @@ is "the shared object has the header's functions and no others" \
     "$(diff <(declared) <(nm -D --defined-only "$library" | cut -d' ' -f3 | sort))"
 is "the archive has the header's functions and no others" \
     "$(diff <(declared) <(nm -g --defined-only "$archive" | sed -n 's/^[0-9a-f]* T //p' | sort))"
+sections='(PROGBITS|NOBITS) .* 0*[1-9a-f][0-9a-f]* [0-9a-f]+ +[A-Z]*W' # that are not empty and can be written to
 for code in "$library" "$archive"; do
     is "${code##*/} needs memcpy, memset and memmove at most" \
         "$(nm -u "$code" | sed -n 's/^ *[Uw] //p' | grep -vE '^mem(cpy|set|move)(@.*)?$')"
     is "${code##*/} has no data that can be written to" \
-        "$(nm "$code" | grep -E ' [bBdDcC] '; readelf -SW "$code" | grep -E ' (PROGBITS|NOBITS) .* 0*[1-9a-f][0-9a-f]* [0-9a-f]+ +[A-Z]*W' | grep -vE ' \.got(\.plt)? ')"
+        "$(nm "$code" | grep -E ' [bBdDcC] ' | grep -vE ' (_DYNAMIC|_GLOBAL_OFFSET_TABLE_)$'
+        readelf -SW "$code" | grep -E " $sections" | grep -vE ' \.got(\.plt)? ')"
 done
 is "what the loader writes to libfermion.so is bound and read-only when it is loaded" \
     "$(readelf -dW "$library" | grep -q BIND_NOW && readelf -lW "$library" | grep -q GNU_RELRO || echo "not bound")"

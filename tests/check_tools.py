@@ -16,8 +16,8 @@ import time
 ROOT = os.path.dirname(os.path.dirname(os.path.abspath(__file__)))
 PRINT = os.path.join(ROOT, "examples", "print_record.py")
 OLD = b"a library that was built before"
-COMMANDS = """bash sh env dirname basename realpath readlink mkdir sed cat sha256sum find sort head tail mktemp rm mv cp ln chmod
-    flock grep tee touch sleep""".split()
+COMMANDS = """bash sh env dirname basename realpath readlink mkdir sed cat sha256sum find sort head tail mktemp rm mv cp ln
+    chmod flock grep tee touch sleep""".split()
 UNAME = "#!/bin/sh\necho x86_64\n"  # the way of x86-64, where gcc alone makes the library of the archive
 RT = """#!/bin/sh
 [ "$1" = version ] && echo kit && exit
@@ -93,19 +93,20 @@ def expect(faults, good, what):
 
 def one_sentence(err, *names):
     """One line that has the names, and that no shell and no interpreter wrote."""
-    return err.count("\n") == 1 and all(name in err for name in names) and not re.search(r"Traceback|not found|unbound|line \d+:", err)
+    foreign = re.search(r"Traceback|not found|unbound|line \d+:", err)
+    return err.count("\n") == 1 and all(name in err for name in names) and not foreign
 
 
 # tools/shared_object.sh
 
 def a_build_that_fails_leaves_the_library(**stand_ins):
-    faults = []
+    faults, made_from = [], b"what it was made from\n"
     with Copy(**stand_ins) as copy:
-        copy.write("target/native/libfermion.so.from", b"what it was made from\n")
+        copy.write("target/native/libfermion.so.from", made_from)
         status, out, err = copy.run("tools/shared_object.sh")
         expect(faults, status != 0, f"status {status}")
         expect(faults, copy.read() == OLD, f"the library is {copy.read()!r}")
-        expect(faults, copy.read("target/native/libfermion.so.from") == b"what it was made from\n", "what it was made from is another")
+        expect(faults, copy.read("target/native/libfermion.so.from") == made_from, "what it was made from is another")
         expect(faults, copy.beside() == ["libfermion.so", "libfermion.so.from"], f"beside it: {copy.beside()}")
         expect(faults, not out, f"standard output: {out!r}")
         expect(faults, ("NOT PROVED" if "NOT" in stand_ins["rt"] else "no room") in err, f"standard error: {err!r}")
@@ -124,9 +125,10 @@ def a_build_replaces_the_library_and_says_which():
     faults = []
     with Copy(rt=RT, gcc=GCC) as copy:
         status, out, err = copy.run("tools/shared_object.sh")
-        expect(faults, (status, copy.read()) == (0, b"a library"), f"status {status}, the library is {copy.read()!r}: {err}")
+        expect(faults, (status, copy.read()) == (0, b"a library"), f"{status}, the library is {copy.read()!r}: {err}")
         expect(faults, out == f"{copy.library}: x86-64, the archive's own code\n", f"standard output: {out!r}")
-        expect(faults, copy.beside() == ["libfermion.so", "libfermion.so.0", "libfermion.so.from"], f"beside it: {copy.beside()}")
+        files = ["libfermion.so", "libfermion.so.0", "libfermion.so.from"]
+        expect(faults, copy.beside() == files, f"beside it: {copy.beside()}")
         expect(faults, copy.read("target/native/libfermion.so.0") == b"a library", "the name for the loader leads elsewhere")
     return faults
 
@@ -160,7 +162,8 @@ def a_tree_that_was_moved_names_its_own_library():
         os.rename(copy.root, copy.root + " moved")
         copy.root += " moved"
         status, out, _ = copy.run("tools/shared_object.sh")
-        expect(faults, status == 0 and out.startswith(copy.root + "/target/native/libfermion.so: "), f"standard output: {out!r}")
+        own = copy.root + "/target/native/libfermion.so: "
+        expect(faults, status == 0 and out.startswith(own), f"standard output: {out!r}")
     return faults
 
 
@@ -187,7 +190,8 @@ def without_rt_a_sentence_says_so():
             copy.write("target/bin/commutator", b"#!/bin/sh\n")
             os.chmod(os.path.join(copy.root, "target/bin/commutator"), 0o755)
             status, out, err = copy.run(*words)
-            expect(faults, status != 0 and not out and one_sentence(err, "rt ", "PATH", "docs/INSTALL.md"), f"{words}: {status} {out!r} {err!r}")
+            said = not out and one_sentence(err, "rt ", "PATH", "docs/INSTALL.md")
+            expect(faults, status != 0 and said, f"{words}: {status} {out!r} {err!r}")
             expect(faults, copy.read() == OLD, f"{words}: the library is {copy.read()!r}")
             expect(faults, not os.path.exists(os.path.join(copy.root, "there")), "something was installed")
     return faults
@@ -205,12 +209,12 @@ def without_gcc_a_sentence_says_so():
 # tools/run.sh and tools/install.sh
 
 def without_an_argument_a_sentence_says_how():
-    faults = []
-    for words in (["tools/run.sh"], ["tools/run.sh", ""], ["tools/run.sh", "a", "b"], ["tools/install.sh"], ["tools/install.sh", ""],
-                  ["tools/install.sh", "a", "b"], ["tools/install.sh", "--prefix=a"]):
+    faults, run, install = [], "tools/run.sh", "tools/install.sh"
+    for words in [run], [run, ""], [run, "a", "b"], [install], [install, ""], [install, "a", "b"], [install, "--prefix=a"]:
         with Copy(rt=RT, gcc=GCC) as copy:
             status, out, err = copy.run(*words)
-            expect(faults, status != 0 and not out and one_sentence(err, "usage: " + words[0]), f"{words}: {status} {out!r} {err!r}")
+            said = not out and one_sentence(err, "usage: " + words[0])
+            expect(faults, status != 0 and said, f"{words}: {status} {out!r} {err!r}")
             expect(faults, copy.read("calls") is None, f"{words}: rt was run")
     return faults
 
@@ -251,7 +255,8 @@ def printed(data, *words):
 def sentences():
     """The refusals in words, by number."""
     with open(os.path.join(ROOT, "docs", "RECORD.md"), encoding="utf-8") as file:
-        return {int(number): words for number, words in re.findall(r"^\| (\d+) \| ([^|]+) \|", file.read().split("\n## Refusals\n")[1], re.M)}
+        section = file.read().split("\n## Refusals\n")[1]
+    return {int(number): words for number, words in re.findall(r"^\| (\d+) \| ([^|]+) \|", section, re.M)}
 
 
 def a_record_and_a_reply_are_printed():
@@ -273,14 +278,16 @@ def a_record_and_a_reply_are_printed():
 
 def other_bytes_are_named_in_a_sentence():
     faults, good = [], record(2, (1, 1, 1))
-    others = [b"", b"x", b"abc\n", good[:31], good[:55], good + b"\0", good + good, bytes(32), bytes(100), b"\xff" * 60, b"refused",
-              b"refused \n", b"refused 1\n", b"refused 0 0 0\n", b"refused 99 0 0\n", b"refused 1 9 0\n", b"refused \xff\xfe 1\n",
-              b"refused 1 1 0\nrefused 1 1 0\n", "refused \u0661 1 0\n".encode(), record(0), record(65), record(2 ** 32 - 1)]
+    others = [b"", b"x", b"abc\n", good[:31], good[:55], good + b"\0", good + good, bytes(32), bytes(100), b"\xff" * 60,
+              record(0), record(65), record(2 ** 32 - 1), b"refused", b"refused \n", b"refused 1\n", b"refused 0 0 0\n",
+              b"refused 99 0 0\n", b"refused 1 9 0\n", b"refused \xff\xfe 1\n", b"refused 1 1 0\nrefused 1 1 0\n",
+              "refused \u0661 1 0\n".encode()]
     others += [record(2, (1, 1, 1), header=[(place, number)]) for place in range(8) for number in (2 ** 32 - 1, 70)]
     others += [record(2, header=[(2, 2049), (4, 32 + 8 * 2049), (5, 32 + 16 * 2049), (6, 32 + 24 * 2049)]) + bytes(24 * 2049)]
     for data in others:
         status, out, err = printed(data)
-        expect(faults, status == 1 and not out and one_sentence(err, "print_record.py: standard input: "), f"{data[:40]!r}: {status} {out!r} {err[-300:]!r}")
+        said = not out and one_sentence(err, "print_record.py: standard input: ")
+        expect(faults, status == 1 and said, f"{data[:40]!r}: {status} {out!r} {err[-300:]!r}")
     return faults
 
 
@@ -289,9 +296,11 @@ def files_that_cannot_be_read_are_named():
     with tempfile.TemporaryDirectory() as folder:
         for path in os.path.join(folder, "none"), folder, "":
             status, out, err = printed(b"", path)
-            expect(faults, status == 1 and not out and one_sentence(err, f"print_record.py: {path}: "), f"{path!r}: {status} {out!r} {err!r}")
+            said = not out and one_sentence(err, f"print_record.py: {path}: ")
+            expect(faults, status == 1 and said, f"{path!r}: {status} {out!r} {err!r}")
         status, out, err = printed(b"", os.path.join(folder, "none"), good)
-        expect(faults, status == 1 and out == "2 modes, 1 term\n       1  {0|1}\n" and one_sentence(err, "none"), f"the next one: {status} {out!r} {err!r}")
+        said = out == "2 modes, 1 term\n       1  {0|1}\n" and one_sentence(err, "none")
+        expect(faults, status == 1 and said, f"the next one: {status} {out!r} {err!r}")
     return faults
 
 
@@ -304,14 +313,15 @@ def the_printers_sentences_are_the_documents():
     faults, words = [], sentences()
     for number in range(1, 12):
         got = printed(b"refused %d 0 0\n" % number)
-        expect(faults, got[0] == 0 and got[1].startswith(f"refused with {number}: {words[number]}"), f"{number}: {got[1]!r}, expected {words[number]!r}")
+        same = got[0] == 0 and got[1].startswith(f"refused with {number}: {words[number]}")
+        expect(faults, same, f"{number}: {got[1]!r}, expected {words[number]!r}")
     return faults
 
 
 # all scripts
 
 def every_script_can_be_read_by_its_shell():
-    scripts = [path for path in glob.glob(os.path.join(ROOT, "*", "*.sh")) + glob.glob(os.path.join(ROOT, ".ci", "*")) if os.path.isfile(path)]
+    scripts = glob.glob(os.path.join(ROOT, "*", "*.sh")) + glob.glob(os.path.join(ROOT, ".ci", "run"))
     faults = [] if len(scripts) >= 8 else [f"only {scripts} were found"]
     for path in scripts:
         with open(path, encoding="utf-8") as file:

@@ -4,7 +4,7 @@
 set -euo pipefail
 cd "$(dirname "$0")/.."
 say() { echo "tools/run.sh: $1" >&2; }
-usage="usage: tools/run.sh NAME, a program of crates/ that 'rt check NAME' has proved, as in tools/run.sh commutator <two-records"
+usage="usage: tools/run.sh NAME, a program that 'rt check NAME' has proved, as in tools/run.sh commutator <two-records"
 case ${1:-} in
 -h | --help)
     echo "$usage"

@@ -28,10 +28,15 @@ archive=target/staticlib/libfermion.a
 exec 9>"$out.lock"
 flock 9 # two tests may ask for it at once
 
-sources() { { rt version; uname -m; sha256sum tools/shared_object.sh crates.txt; find crates -type f -exec sha256sum {} + | sort; } | sha256sum; }
+sources() {
+    { rt version; uname -m; sha256sum tools/shared_object.sh crates.txt; find crates -type f -exec sha256sum {} + | sort; } |
+        sha256sum
+}
 results() { cat "$1" "$archive" 2>/dev/null | sha256sum; }
 from=$(sources)
-if [ -f "$out" ] && [ -f "$(dirname "$out")/libfermion.so.0" ] && [ -f "$archive" ] && [ "$(head -n 2 "$out.from" 2>/dev/null)" = "$from"$'\n'"$(results "$out")" ]; then
+alias=$(dirname "$out")/libfermion.so.0
+if [ -f "$out" ] && [ -f "$alias" ] && [ -f "$archive" ] &&
+    [ "$(head -n 2 "$out.from" 2>/dev/null)" = "$from"$'\n'"$(results "$out")" ]; then
     echo "$out: $(tail -n 1 "$out.from")"
     exit
 fi
@@ -77,7 +82,8 @@ compile_here() { # WHERE-TO: the module for this machine's processor
     own=$home/on/$(uname -m)
     clang=$own/toolchain/bin/clang
     keep_module "$home" "$own"
-    logged "$clang" --target=x86_64-unknown-linux-gnu -Xclang -disable-llvm-passes -S -emit-llvm -x ir "$work/module.bc" -o "$work/raw.ll"
+    logged "$clang" --target=x86_64-unknown-linux-gnu -Xclang -disable-llvm-passes -S -emit-llvm -x ir "$work/module.bc" \
+        -o "$work/raw.ll"
     sed -e '/^target /d' -e 's/"target-cpu"="x86-64"//g; s/"target-features"="[^"]*"//g; s/"probe-stack"="[^"]*"//g' \
         "$work/raw.ll" >"$work/own.ll"
     logged "$clang" --target="$(uname -m)-unknown-linux-gnu" -Wno-override-module -O3 -fPIC -c -x ir "$work/own.ll" -o "$1"
@@ -101,6 +107,6 @@ else
 fi
 printf '%s\n' "$from" "$(results "$new")" "$kind" >"$new.from"
 mv -f "$new" "$out"
-ln -sfn "$(basename "$out")" "$(dirname "$out")/libfermion.so.0"
+ln -sfn "$(basename "$out")" "$alias"
 mv -f "$new.from" "$out.from"
 echo "$out: $kind"

@@ -32,8 +32,8 @@ def library():
     named = os.environ.get("FERMION_LIB")
     file = Path(named) if named else ROOT / "target" / "native" / "libfermion.so"
     if not file.is_file():
-        raise SystemExit(f"fermion: {file} is not there: run tools/shared_object.sh of the repository first, or name a library "
-                         "by its absolute path in FERMION_LIB")
+        raise SystemExit(f"fermion: {file} is not there: run tools/shared_object.sh of the repository first, or name a "
+                         "library by its absolute path in FERMION_LIB")
     data = file.read_bytes()
     machine = MACHINES.get(int.from_bytes(data[18:20], "little")) if data[:5] == b"\x7fELF\x02" else None
     if machine is None or b"fermion_check" not in data:
@@ -50,8 +50,9 @@ def metadata():
 
 def about(tag):
     """The files of the wheel's .dist-info but for RECORD."""
-    wheel = f"Wheel-Version: 1.0\nGenerator: fermion-build-backend\nRoot-Is-Purelib: {str(tag.endswith('any')).lower()}\nTag: {tag}\n"
-    files = {"METADATA": metadata().encode(), "WHEEL": wheel.encode()}
+    wheel = ["Wheel-Version: 1.0", "Generator: fermion-build-backend", f"Root-Is-Purelib: {str(tag.endswith('any')).lower()}",
+             f"Tag: {tag}", ""]
+    files = {"METADATA": metadata().encode(), "WHEEL": "\n".join(wheel).encode()}
     for name in "LICENSE", "NOTICE":
         files[f"licenses/{name}"] = (ROOT / name).read_bytes()
     return {f"fermion-{version()}.dist-info/{name}": data for name, data in files.items()}
@@ -106,8 +107,8 @@ def build_editable(wheel_directory, config_settings=None, metadata_directory=Non
 
 
 def build_sdist(sdist_directory, config_settings=None):
-    raise SystemExit("fermion: there is no source distribution: the library is built with its proofs, in the repository. A wheel "
-                     "is made by: pip wheel bindings/python")
+    raise SystemExit("fermion: there is no source distribution: the library is built with its proofs, in the repository. A "
+                     "wheel is made by: pip wheel bindings/python")
 
 
 def get_requires_for_build_wheel(config_settings=None):
