@@ -3,29 +3,16 @@ from __future__ import annotations
 
 import ctypes
 import struct
-from typing import Any, Callable, List, NamedTuple, Optional, Sequence, Tuple, TypeVar
+from typing import Iterable, List, Optional, Sequence, Tuple
 
-from ._face import Readable, Writable, as_bytes, as_floats, as_words, call, front, keep_apart, lent, memory
-from ._record import HEADER, MAX_BYTES, MAX_TERMS, ROW, Record
-from ._types import Applied, Checked, Comparison, Refusal, Term
-
-MAX_BASIS = 8
-#: The bytes of work that a product is tried with first.
-FIRST_WORK = 65520
-#: The bytes of work beyond which a product is not tried again, unless the caller gives another ceiling.
-WORK_CEILING = 1 << 28
-
-T = TypeVar("T")
+from ._buffers import Readable, Writable, as_floats, as_parts, as_word, as_words, view_of
+from ._face import call
+from ._record import Product, Record, projected, signed
+from ._types import Applied, Branches, Checked, Comparison, Term, Whole
+from ._work import HEADER, ROW, WORK_CEILING, adjoined, front, multiplied, rows_for, summed
 
 
-class Product(NamedTuple):
-    """The record of a product, and its branches: a work of 24 bytes for each is enough."""
-
-    record: Record
-    branches: int
-
-
-def apply(cre: int, ann: int, ket: int) -> Optional[Applied]:
+def apply(cre: Whole, ann: Whole, ket: Whole) -> Optional[Applied]:
     """The term {cre|ann} on an occupation word, or None for Zero. Never refused.
 
     >>> apply(word(2), word(0), word(0, 1))
@@ -33,11 +20,12 @@ def apply(cre: int, ann: int, ket: int) -> Optional[Applied]:
     >>> apply(word(0), 0, word(0)) is None
     True
     """
-    applied, new, minus = call("apply", cre, ann, ket)[5:]
+    words = as_word(cre, "the creation word"), as_word(ann, "the annihilation word"), as_word(ket, "the ket")
+    applied, new, minus = call("apply", *words)[5:]
     return Applied(new, -1 if minus else 1) if applied else None
 
 
-def mul_cmpnts(left: Tuple[int, int], right: Tuple[int, int], *, out: Optional[Writable] = None,
+def mul_cmpnts(left: Tuple[Whole, Whole], right: Tuple[Whole, Whole], *, out: Optional[Writable] = None,
                ceiling: int = WORK_CEILING) -> List[Term]:
     """The terms of the product of two terms, each given as (creation word, annihilation word).
 
@@ -47,10 +35,10 @@ def mul_cmpnts(left: Tuple[int, int], right: Tuple[int, int], *, out: Optional[W
     >>> [str(term) for term in mul_cmpnts((0, word(0)), (word(0), 0))]
     ['1 {|}', '-1 {0|0}']
     """
-    def attempt(rows: Any) -> List[Term]:
-        length = call("mul_cmpnts", *left, *right, rows)[3]
-        return [Term(cre, ann, coeff) for ann, cre, coeff in struct.iter_unpack("<QQq", front(rows, length))]
-    return _with_memory(out, ceiling, attempt)
+    words = [(as_word(cre, "the creation word"), as_word(ann, "the annihilation word")) for cre, ann in (left, right)]
+    rows = rows_for("mul", _alone(*words[0]), _alone(*words[1]), ceiling) if out is None else out
+    length = call("mul_cmpnts", *words[0], *words[1], rows)[3]
+    return [Term(cre, ann, coeff) for ann, cre, coeff in struct.iter_unpack("<QQq", front(rows, length))]
 
 
 def check(a: Readable) -> Checked:
@@ -59,7 +47,7 @@ def check(a: Readable) -> Checked:
     >>> check(Record.build(3, [(1, 1, 4), (2, 1, -6)]))
     Checked(modes=3, terms=2, weight=10)
     """
-    return Checked(*call("check", as_bytes(a))[5:])
+    return Checked(*call("check", a)[5:])
 
 
 def add(a: Readable, b: Readable, *, out: Optional[Writable] = None) -> Record:
@@ -68,7 +56,7 @@ def add(a: Readable, b: Readable, *, out: Optional[Writable] = None) -> Record:
     >>> print(add(Record.build(2, [(1, 1, 4)]), Record.build(2, [(1, 1, 1), (2, 2, 1)])))
     5 {0|0} + 1 {1|1}
     """
-    return _summed("add", a, b, out)
+    return Record._written(summed("add", a, b, out))
 
 
 def sub(a: Readable, b: Readable, *, out: Optional[Writable] = None) -> Record:
@@ -77,14 +65,15 @@ def sub(a: Readable, b: Readable, *, out: Optional[Writable] = None) -> Record:
     >>> print(sub(Record.build(2, [(1, 1, 4)]), Record.build(2, [(1, 1, 4)])))
     0
     """
-    return _summed("sub", a, b, out)
+    return Record._written(summed("sub", a, b, out))
 
 
 def mul(a: Readable, b: Readable, *, work: Optional[Writable] = None, out: Optional[Writable] = None,
         ceiling: int = WORK_CEILING) -> Product:
     """The product a b. Refusals: 1 to 6, 8, 7, 10, 9; and 11 for an `out` that is lent.
 
-    Where no `work` is lent, more and more is taken, up to `ceiling` bytes, until 7 is not given.
+    Where no `work` is lent, the branches are counted first and memory is taken for exactly these; 7 is given where that is
+    more than `ceiling` bytes. `out` and `work` overlap nothing else of the call; that is a ValueError.
 
     >>> annihilate, create = Record.build(1, [(0, 1, 1)]), Record.build(1, [(1, 0, 1)])
     >>> product = mul(annihilate, create)
@@ -115,15 +104,24 @@ def anticommutator(a: Readable, b: Readable, *, work: Optional[Writable] = None,
     return _multiplied("anticommutator", a, b, work, out, ceiling)
 
 
+def branches(a: Readable, b: Readable) -> Branches:
+    """The branches of a b and of b a, counted without any memory. Refusals: 1 to 6; 7 where 24 times their sum is more than
+    2^63.
+
+    >>> annihilate, create = Record.build(1, [(0, 1, 1)]), Record.build(1, [(1, 0, 1)])
+    >>> branches(annihilate, create)
+    Branches(forward=2, backward=1)
+    """
+    return Branches(*call("branches", a, b)[4:6])
+
+
 def adjoint(a: Readable, *, out: Optional[Writable] = None) -> Record:
     """The adjoint. Refusals: 1 to 5; and 11 for an `out` that is lent.
 
     >>> print(adjoint(Record.build(2, [(word(0, 1), 0, 1)])))
     -1 {|0,1}
     """
-    data = as_bytes(a)
-    room = _room(out, len(data))
-    return _record_in(room, call("adjoint", data, room))
+    return Record._written(adjoined(a, out))
 
 
 def is_hermitian(a: Readable) -> bool:
@@ -162,7 +160,7 @@ def active_modes(a: Readable) -> int:
     return _told("active_modes", a)
 
 
-def block(a: Readable, ann: int) -> memoryview:
+def block(a: Readable, ann: Whole) -> memoryview:
     """The creation words of the terms with one annihilation word, as a part of the caller's own bytes.
 
     The part is empty where there is no such term, and for bytes that are not a record. Never refused.
@@ -171,31 +169,28 @@ def block(a: Readable, ann: int) -> memoryview:
     >>> bytes(block(record, 2)).hex(" ", 8)
     '0100000000000000 0200000000000000'
     """
-    data = as_bytes(a)
-    start, length = call("block", data, ann)[5:7]
-    return memoryview(data if isinstance(a, Record) else a).cast("B")[start:start + length]
+    start, length = call("block", a, as_word(ann, "the annihilation word"))[5:7]
+    return view_of(a)[start:start + length]
 
 
-def element(a: Readable, bra: int, ket: int) -> int:
+def element(a: Readable, bra: Whole, ket: Whole) -> int:
     """The exact element between two occupation words. Refusals: 1 to 5, 12.
 
     >>> element(Record.build(2, [(2, 0, 7)]), word(0, 1), word(0))
     -7
     """
-    return _signed(call("element", as_bytes(a), bra, ket)[5])
+    return signed(call("element", a, *_ends(bra, ket))[5])
 
 
-def mat_ortho_projected(a: Readable, basis: Sequence[int]) -> List[List[int]]:
+def mat_ortho_projected(a: Readable, basis: Iterable[Whole]) -> List[List[int]]:
     """The exact elements between up to 8 different words, a row for each bra and a column for each ket.
 
-    Refusals: 1 to 5, 14, 12.
+    Refusals: 1 to 5, 14, 12. `Record.matrix` takes a basis of any length.
 
     >>> mat_ortho_projected(Record.build(2, [(1, 2, 3), (2, 2, 5)]), [word(0), word(1)])
     [[0, 3], [0, 5]]
     """
-    words, matrix = as_words(basis), (ctypes.c_int64 * MAX_BASIS**2)()
-    call("mat_ortho_projected", as_bytes(a), words, matrix)
-    return [list(matrix[MAX_BASIS * i:MAX_BASIS * i + len(words)]) for i in range(len(words))]
+    return projected(a, as_words(basis, "basis word"))
 
 
 def compare(a: Readable, b: Readable) -> Comparison:
@@ -204,33 +199,33 @@ def compare(a: Readable, b: Readable) -> Comparison:
     >>> compare(Record.build(2, [(1, 2, 3)]), Record.build(2, [(1, 2, 4)]))
     Comparison(equal=False, bra=1, ket=2)
     """
-    equal, bra, ket = call("compare", as_bytes(a), as_bytes(b))[5:]
+    equal, bra, ket = call("compare", a, b)[5:]
     return Comparison(True) if equal else Comparison(False, bra, ket)
 
 
-def mat_elem_real(m: int, cre: Sequence[int], ann: Sequence[int], coeff: Sequence[float], bra: int, ket: int) -> float:
+def mat_elem_real(m: Whole, cre: Iterable[Whole], ann: Iterable[Whole], coeff: Sequence[float], bra: Whole,
+                  ket: Whole) -> float:
     """The element of terms with float coefficients, added in the order given, one rounding for each that joins.
 
-    Refusals: 1, 2, 13, 12.
+    Refusals: 1, 2, 13, 12. `FloatTerms` lays the lists out once, for many elements.
 
     >>> mat_elem_real(2, [word(0), 0], [word(0), 0], [0.5, 0.25], word(0), word(0))
     0.75
     """
     value = (ctypes.c_double * 2)()
-    call("mat_elem_real", m, as_words(cre), as_words(ann), as_floats(coeff), bra, ket, value)
+    call("mat_elem_real", *_words(m, cre, ann), as_floats(coeff, "coefficient"), *_ends(bra, ket), value)
     return value[0]
 
 
-def mat_elem_complex(m: int, cre: Sequence[int], ann: Sequence[int], coeff: Sequence[complex], bra: int,
-                     ket: int) -> complex:
+def mat_elem_complex(m: Whole, cre: Iterable[Whole], ann: Iterable[Whole], coeff: Sequence[complex], bra: Whole,
+                     ket: Whole) -> complex:
     """The element of terms with complex coefficients: as `mat_elem_real`, each part by itself.
 
     >>> mat_elem_complex(2, [word(0), 0], [word(0), 0], [0.5j, 0.25], word(0), word(0))
     (0.25+0.5j)
     """
     value = (ctypes.c_double * 2)()
-    parts = as_floats([c.real for c in coeff]), as_floats([c.imag for c in coeff])
-    call("mat_elem_complex", m, as_words(cre), as_words(ann), *parts, bra, ket, value)
+    call("mat_elem_complex", *_words(m, cre, ann), *as_parts(coeff, "coefficient"), *_ends(bra, ket), value)
     return complex(value[0], value[1])
 
 
@@ -238,49 +233,23 @@ def mat_elem_complex(m: int, cre: Sequence[int], ann: Sequence[int], coeff: Sequ
 
 
 def _told(name: str, a: Readable) -> int:
-    return call(name, as_bytes(a))[5]
+    return call(name, a)[5]
 
 
-def _signed(number: int) -> int:
-    return number - (number >> 63 << 64)
-
-
-def _room(out: Optional[Writable], needed: int) -> Any:
-    """The caller's output, or one of `needed` bytes: more than a record may have is never needed."""
-    return memory(min(needed, MAX_BYTES)) if out is None else lent(out)
-
-
-def _record_in(room: Any, answer: List[int]) -> Record:
-    return Record._written(front(room, answer[3]))
-
-
-def _summed(name: str, a: Readable, b: Readable, out: Optional[Writable]) -> Record:
-    first, second = as_bytes(a), as_bytes(b)
-    room = _room(out, len(first) + len(second))
-    return _record_in(room, call(name, first, second, room))
+def _alone(cre: int, ann: int) -> bytes:
+    """The record of one term on 64 modes, with coefficient 1."""
+    return struct.pack("<8I2Qq", 1, 64, 1, HEADER, HEADER + 8, HEADER + 16, HEADER + ROW, 0, ann, cre, 1)
 
 
 def _multiplied(name: str, a: Readable, b: Readable, work: Optional[Writable], out: Optional[Writable],
                 ceiling: int) -> Product:
-    first, second = as_bytes(a), as_bytes(b)
-
-    def attempt(rows: Any) -> Product:
-        room = _room(out, HEADER + ROW * min(len(rows) // ROW, MAX_TERMS))  # no more terms than rows
-        keep_apart(rows, room)
-        answer = call(name, first, second, rows, room)
-        return Product(_record_in(room, answer), answer[4])
-    return _with_memory(work, ceiling, attempt)
+    record, count = multiplied(name, a, b, work, out, ceiling)
+    return Product(Record._written(record), count)
 
 
-def _with_memory(own: Optional[Writable], ceiling: int, attempt: Callable[[Any], T]) -> T:
-    """An attempt with the caller's own memory; else with more and more, up to the ceiling, as long as 7 is given."""
-    if own is not None:
-        return attempt(lent(own))
-    length = min(FIRST_WORK, ceiling)
-    while True:
-        try:
-            return attempt(memory(length))
-        except Refusal as refusal:
-            if refusal.number != 7 or length >= ceiling:
-                raise
-        length = min(4 * length, ceiling)
+def _words(m: Whole, cre: Iterable[Whole], ann: Iterable[Whole]) -> Tuple[object, ...]:
+    return as_word(m, "the mode count"), as_words(cre, "creation word"), as_words(ann, "annihilation word")
+
+
+def _ends(bra: Whole, ket: Whole) -> Tuple[int, int]:
+    return as_word(bra, "the bra"), as_word(ket, "the ket")

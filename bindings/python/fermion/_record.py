@@ -1,19 +1,18 @@
-"""The record: bytes that were accepted, and how they are built and read. docs/RECORD.md describes them."""
+"""The record: bytes that were accepted, how they are built and read, and the operators on them. docs/RECORD.md describes it."""
 from __future__ import annotations
 
+import importlib
 import struct
-from typing import Dict, Iterable, Iterator, List, Tuple
+from array import array
+from bisect import bisect_left
+from itertools import combinations
+from typing import Any, Dict, Iterable, Iterator, List, NamedTuple, Optional, Tuple, Union
 
-from ._face import Readable, as_bytes, as_word, call
-from ._types import Refusal, Term, written_out
-
-MAX_MODES = 64
-MAX_TERMS = 2048
-MAX_WEIGHT = 2**60
-HEADER = 32
-ROW = 24
-#: The length of a record with as many terms as there may be.
-MAX_BYTES = HEADER + ROW * MAX_TERMS
+from ._buffers import Readable, as_word, as_words, copy_of
+from ._face import call
+from ._ladders import Ladders, Products, mode_count, multiplied_out
+from ._types import Columns, Refusal, Term, Whole, whole, written_out
+from ._work import HEADER, MAX_BASIS, MAX_TERMS, MAX_WEIGHT, ROW, adjoined, multiplied, summed
 
 
 class Record:
@@ -27,22 +26,31 @@ class Record:
     >>> Record(bytes(record)) == record
     True
 
+    Operators are written as in mathematics. What the library cannot do is refused, as in the functions of the same meaning.
+
+    >>> a, b = Record.ladders(2, [(0, 0)]), Record.ladders(2, [(0, 1)])
+    >>> print(a * b + b * a, "and", 2 * a - a, "and", (a * b) ** 2)
+    1 {|} and 1 {|0} and 1 {|} - 1 {0|0}
+
     Any bytes may be given; what is not a record is refused.
 
     >>> Record(b"no record")
     Traceback (most recent call last):
-    fermion.Refusal: refused 1 (operand 1, place 0): the header, the length, the mode count or the lengths of the lists break the rules
+    fermion.Refusal: refused 1 (operand 1, place 0): the header, the length, the mode count (1 to 64), the number of terms (at most 2,048) or the lengths of the lists break the rules
     """
 
-    __slots__ = ("_data",)
-    _data: bytes
+    __slots__ = ("_accepted",)
+    _accepted: bytes
+    __array_ufunc__ = None  # so that a NumPy number times a record is left to the record
 
     def __init__(self, data: Readable) -> None:
-        self._data = as_bytes(data)
-        call("check", self._data)
+        self._accepted = copy_of(data)
+        call("check", self._accepted)
+
+    # Building
 
     @classmethod
-    def build(cls, modes: int, terms: Iterable[Tuple[int, int, int]]) -> Record:
+    def build(cls, modes: Whole, terms: Iterable[Tuple[Whole, Whole, Whole]]) -> Record:
         """The record of a sum of terms (creation word, annihilation word, coefficient), in any order and with repeats.
 
         Terms are sorted, like terms joined and zeros dropped. Refusals: 1 for the mode count; for each term in turn 2, its
@@ -53,61 +61,132 @@ class Record:
         >>> Record.build(2, [(1, 2, 5), (4, 0, 1)])
         Traceback (most recent call last):
         fermion.Refusal: refused 2 (operand 1, place 1): a word of a term is outside the modes
+        >>> Record.build(2, [(1, 2, 5), (1, 1, 1.5)])
+        Traceback (most recent call last):
+        TypeError: term 1: the coefficient is 1.5, not a whole number
         """
-        if not 1 <= modes <= MAX_MODES:
-            raise Refusal(1, 1, 0)
-        joined = _joined(modes, terms)
+        m = mode_count(modes)
+        joined = _joined(m, terms)
         if len(joined) > MAX_TERMS:
             raise Refusal(10, 0, 0)
         if sum(abs(term.coeff) for term in joined) > MAX_WEIGHT:
             raise Refusal(9, 0, 0)
-        return cls(_encode(modes, joined))
+        return cls(_encode(m, joined))
+
+    @classmethod
+    def ladders(cls, modes: Whole, ladders: Ladders, coeff: Whole = 1) -> Record:
+        """The product of ladder operators in any order, leftmost first: (mode, 1) creates, (mode, 0) annihilates.
+
+        The library's product multiplies them out, with the signs. Refusals: 1 for the mode count, 2 for a mode outside, 10
+        and 9; 10 also where the ladders multiplied so far, from left to right, have more than 2,048 terms.
+
+        >>> print(Record.ladders(4, [(3, 1), (0, 1)]))
+        -1 {0,3|}
+        >>> print(Record.ladders(1, [(0, 0), (0, 1)], coeff=5))
+        5 {|} - 5 {0|0}
+        """
+        return cls.from_ladders(modes, [(ladders, coeff)])
+
+    @classmethod
+    def from_ladders(cls, modes: Whole, terms: Products[Whole]) -> Record:
+        """The sum of products of ladders, each with its coefficient: a mapping {ladders: coefficient}, as OpenFermion writes
+        them, or pairs. Refusals: as for one product, the place of 2 being that of the product.
+
+        >>> print(Record.from_ladders(2, {((0, 1), (1, 0)): 3, ((1, 0), (0, 1)): 1, (): 7}))
+        7 {|} + 2 {0|1}
+        """
+        m = mode_count(modes)
+        return cls.build(m, (
+            (cre, ann, sign * whole(coeff, f"product {place}: the coefficient"))
+            for cre, ann, sign, coeff, place in multiplied_out(m, terms)))
 
     @classmethod
     def _written(cls, data: bytes) -> Record:
         """Bytes that the library wrote as a record: it is proved that it accepts them."""
         made = cls.__new__(cls)
-        made._data = data
+        made._accepted = data
         return made
+
+    # Reading
 
     @property
     def modes(self) -> int:
         """The mode count m."""
-        return int.from_bytes(self._data[4:8], "little")
+        return int.from_bytes(self._accepted[4:8], "little")
 
     @property
     def weight(self) -> int:
         """The sum of the coefficients' magnitudes."""
-        return sum(abs(term.coeff) for term in self)
+        return call("check", self)[7]
 
-    def creations(self, ann: int) -> List[int]:
+    @property
+    def data(self) -> memoryview:
+        """The bytes, to be read where they stand."""
+        return memoryview(self._accepted)
+
+    @property
+    def columns(self) -> Columns:
+        """The creation words, the annihilation words and the coefficients, to be read where they stand: NumPy arrays where
+        NumPy can be imported, else memoryviews.
+
+        >>> [list(map(int, column)) for column in Record.build(2, [(1, 2, 5), (2, 2, -7)]).columns]
+        [[1, 2], [2, 2], [5, -7]]
+        """
+        n, numpy = len(self), _numpy()
+        views = [self.data[HEADER + 8 * n * at:HEADER + 8 * n * (at + 1)].cast(kind) for at, kind in enumerate("QQq")]
+        ann, cre, coeff = views if numpy is None else map(numpy.asarray, views)
+        return Columns(cre, ann, coeff)
+
+    def creations(self, ann: Whole) -> List[int]:
         """The creation words of the terms with this annihilation word, ascending.
 
         >>> Record.build(2, [(1, 2, 5), (2, 2, 7), (0, 1, 1)]).creations(2)
         [1, 2]
         """
-        start, length = call("block", self._data, ann)[5:7]
-        return list(struct.unpack_from(f"<{length // 8}Q", self._data, start))
+        start, length = call("block", self, as_word(ann, "the annihilation word"))[5:7]
+        return list(struct.unpack_from(f"<{length // 8}Q", self._accepted, start))
+
+    def __getitem__(self, words: Tuple[Whole, Whole]) -> int:
+        """The coefficient of the term {cre|ann}, 0 where there is none.
+
+        >>> record = Record.build(2, [(1, 2, 5), (2, 2, 7)])
+        >>> record[word(0), word(1)], record[0, 0]
+        (5, 0)
+        """
+        if not (isinstance(words, tuple) and len(words) == 2):
+            raise TypeError("a record is indexed by two words: record[cre, ann]")
+        cre, ann = as_word(words[0], "the creation word"), as_word(words[1], "the annihilation word")
+        start, length = call("block", self, ann)[5:7]
+        part = self.data[start:start + length].cast("Q")
+        at = bisect_left(part, cre)
+        if at == len(part) or part[at] != cre:
+            return 0
+        return int.from_bytes(self.data[start + 8 * (len(self) + at):][:8], "little", signed=True)
 
     def __len__(self) -> int:
-        return (len(self._data) - HEADER) // ROW
+        return (len(self._accepted) - HEADER) // ROW
 
     def __iter__(self) -> Iterator[Term]:
         n = len(self)
-        columns = struct.unpack_from(f"<{2 * n}Q{n}q", self._data, HEADER)
+        columns = struct.unpack_from(f"<{2 * n}Q{n}q", self._accepted, HEADER)
         return map(Term, columns[n:2 * n], columns[:n], columns[2 * n:])
 
     def __bytes__(self) -> bytes:
-        return self._data
+        return self._accepted
+
+    def __buffer__(self, flags: int, /) -> memoryview:
+        return memoryview(self._accepted)  # memoryview(record) calls this from Python 3.12 on
 
     def __eq__(self, other: object) -> bool:
-        return self._data == other._data if isinstance(other, Record) else NotImplemented
+        if not isinstance(other, Record):
+            return NotImplemented
+        return self._accepted == other._accepted
 
     def __hash__(self) -> int:
-        return hash(self._data)
+        return hash(self._accepted)
 
     def __reduce__(self) -> Tuple[object, ...]:
-        return Record, (self._data,)  # checked again where it arrives
+        return Record, (self._accepted,)  # checked again where it arrives
 
     def __str__(self) -> str:
         return written_out(self)
@@ -115,12 +194,217 @@ class Record:
     def __repr__(self) -> str:
         return f"Record.build({self.modes}, {[tuple(term) for term in self]})"
 
+    # Operators, each by the library's call
 
-def _joined(modes: int, terms: Iterable[Tuple[int, int, int]]) -> List[Term]:
+    def __add__(self, other: Operand) -> Record:
+        return Record._written(summed("add", self, other)) if isinstance(other, _operands) else NotImplemented
+
+    def __sub__(self, other: Operand) -> Record:
+        return Record._written(summed("sub", self, other)) if isinstance(other, _operands) else NotImplemented
+
+    def __mul__(self, other: Union[Operand, Whole]) -> Record:
+        return _product(self, other)
+
+    def __radd__(self, other: Operand) -> Record:
+        return Record._written(summed("add", other, self)) if isinstance(other, _operands) else NotImplemented
+
+    def __rsub__(self, other: Operand) -> Record:
+        return Record._written(summed("sub", other, self)) if isinstance(other, _operands) else NotImplemented
+
+    def __rmul__(self, other: Union[Operand, Whole]) -> Record:
+        return Record._written(multiplied("mul", other, self)[0]) if isinstance(other, _operands) else _product(self, other)
+
+    def __neg__(self) -> Record:
+        return Record.build(self.modes, []) - self
+
+    def __pos__(self) -> Record:
+        return self
+
+    def __pow__(self, exponent: Whole) -> Record:
+        """The record multiplied with itself, by squaring; the power 0 is {|} with 1."""
+        k = whole(exponent, "the exponent")
+        if k < 0:
+            raise ValueError(f"a record has no power {k}")
+        made: Optional[Record] = None
+        for digit in f"{k:b}" if k else "":
+            made = self if made is None else made * made * self if digit == "1" else made * made
+        return Record.build(self.modes, [(0, 0, 1)]) if made is None else made
+
+    def adjoint(self) -> Record:
+        """The adjoint.
+
+        >>> print(Record.build(2, [(word(0, 1), 0, 1)]).adjoint())
+        -1 {|0,1}
+        """
+        return Record._written(adjoined(self))
+
+    def commutator(self, other: Readable) -> Record:
+        """This record times the other, less the other times this.
+
+        >>> a = Record.build(2, [(1, 2, 1)])
+        >>> print(a.commutator(a.adjoint()))
+        1 {0|0} - 1 {1|1}
+        """
+        return Record._written(multiplied("commutator", self, other)[0])
+
+    def anticommutator(self, other: Readable) -> Record:
+        """This record times the other, and the other times this.
+
+        >>> print(Record.build(1, [(0, 1, 1)]).anticommutator(Record.build(1, [(1, 0, 1)])))
+        1 {|}
+        """
+        return Record._written(multiplied("anticommutator", self, other)[0])
+
+    def is_hermitian(self) -> bool:
+        """Whether the record is its own adjoint."""
+        return bool(call("is_hermitian", self)[5])
+
+    def conserves_particle_number(self) -> bool:
+        """Whether every term has as many creations as annihilations."""
+        return bool(call("conserves_particle_number", self)[5])
+
+    def max_n_body(self) -> int:
+        """The largest rank of a term, 0 for no terms."""
+        return call("max_n_body", self)[5]
+
+    def active_modes(self) -> int:
+        """The word of all modes that occur in a term."""
+        return call("active_modes", self)[5]
+
+    # Elements
+
+    def element(self, bra: Whole, ket: Whole) -> int:
+        """The exact element between two occupation words. Refusal: 12.
+
+        >>> Record.build(2, [(2, 0, 7)]).element(word(0, 1), word(0))
+        -7
+        """
+        return signed(call("element", self, as_word(bra, "the bra"), as_word(ket, "the ket"))[5])
+
+    def matrix(self, basis: Iterable[Whole]) -> List[List[int]]:
+        """The exact elements between the words of a basis of any length, a row for each bra and a column for each ket.
+
+        Refusals: 12 for each word in turn, then 14 for a word that stands twice; the place is that in the basis.
+
+        >>> Record.build(2, [(1, 2, 3), (2, 2, 5)]).matrix([word(0), word(1)])
+        [[0, 3], [0, 5]]
+        """
+        words = as_words(basis, "basis word")
+        _look_at(words, self.modes)
+        matrix = [[0] * len(words) for _ in words]
+        for places in _tiles(len(words)):
+            tile = projected(self, array("Q", [words[i] for i in places]))
+            for i, row in zip(places, tile):
+                for j, entry in zip(places, row):
+                    matrix[i][j] = entry
+        return matrix
+
+
+class Product(NamedTuple):
+    """The record of a product, and its branches: a work of 24 bytes for each is enough.
+
+    It is taken wherever a record is.
+
+    >>> a, b = Record.build(1, [(0, 1, 1)]), Record.build(1, [(1, 0, 1)])
+    >>> print(commutator(commutator(a, b), a).record, "and", commutator(a, b) + b)
+    2 {|0} and 1 {|} + 1 {0|} - 2 {0|0}
+    """
+
+    record: Record
+    branches: int
+
+    @property
+    def _accepted(self) -> bytes:
+        return self.record._accepted
+
+    def __bytes__(self) -> bytes:
+        return self.record._accepted
+
+    def __buffer__(self, flags: int, /) -> memoryview:
+        return self.record.data
+
+    # A tuple would append and repeat here.
+
+    def __add__(self, other: Any) -> Any:
+        return self.record + other
+
+    def __sub__(self, other: Any) -> Any:
+        return self.record - other
+
+    def __mul__(self, other: Any) -> Any:
+        return self.record * other
+
+    def __rmul__(self, other: Any) -> Any:
+        return other * self.record
+
+    def __neg__(self) -> Record:
+        return -self.record
+
+    def __pow__(self, exponent: Whole) -> Record:
+        return self.record ** exponent
+
+
+Operand = Union[Record, Product]
+_operands = (Record, Product)
+
+
+def signed(number: int) -> int:
+    """The number that an answer holds as its two's complement."""
+    return number - (number >> 63 << 64)
+
+
+def projected(a: Readable, words: "array[int]") -> List[List[int]]:
+    """The matrix between up to 8 words, in one call."""
+    matrix = array("q", bytes(8 * MAX_BASIS**2))
+    call("mat_ortho_projected", a, words, matrix.buffer_info()[0])
+    return [list(matrix[MAX_BASIS * i:MAX_BASIS * i + len(words)]) for i in range(len(words))]
+
+
+def _product(a: Record, other: Any) -> Record:
+    """A record times a record on its right, or times a whole number: that is the term {|} with this coefficient."""
+    if not isinstance(other, _operands):
+        if not hasattr(type(other), "__index__"):
+            return NotImplemented
+        other = Record.build(a.modes, [(0, 0, other)])
+    return Record._written(multiplied("mul", a, other)[0])
+
+
+def _look_at(basis: "array[int]", modes: int) -> None:
+    """What `fermion_mat_ortho_projected` refuses in a basis but for its length: 12 in turn, then 14 for a repeat."""
+    for place, word in enumerate(basis):
+        if word >> modes:
+            raise Refusal(12, 3, place)
+    seen = set()
+    for place, word in enumerate(basis):
+        if word in seen:
+            raise Refusal(14, 3, place)
+        seen.add(word)
+
+
+def _tiles(length: int) -> Iterable[List[int]]:
+    """Places in a basis, at most 8 at a time, so that every two stand together once: halves of 4, each with each."""
+    half = MAX_BASIS // 2
+    parts = [list(range(start, min(start + half, length))) for start in range(0, length, half)]
+    if len(parts) < 2:
+        return parts
+    return (first + second for first, second in combinations(parts, 2))
+
+
+def _numpy() -> Any:
+    try:
+        return importlib.import_module("numpy")
+    except ImportError:
+        return None
+
+
+def _joined(modes: int, terms: Iterable[Tuple[Whole, Whole, Whole]]) -> List[Term]:
     """The terms ascending by (annihilation, creation), each pair of words once, without zeros."""
     sums: Dict[Tuple[int, int], int] = {}
     for place, (cre, ann, coeff) in enumerate(terms):
-        if as_word(cre) >> modes or as_word(ann) >> modes:
+        cre = as_word(cre, f"term {place}: the creation word")
+        ann = as_word(ann, f"term {place}: the annihilation word")
+        coeff = whole(coeff, f"term {place}: the coefficient")
+        if cre >> modes or ann >> modes:
             raise Refusal(2, 1, place)
         sums[ann, cre] = sums.get((ann, cre), 0) + coeff
     return [Term(cre, ann, coeff) for (ann, cre), coeff in sorted(sums.items()) if coeff]

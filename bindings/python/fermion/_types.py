@@ -1,11 +1,41 @@
-"""What calls answer: a refusal, and the values of the calls."""
+"""What calls answer: a refusal, and the values of the calls; words, and whole numbers as callers give them."""
 from __future__ import annotations
 
-from typing import Iterable, Iterator, NamedTuple, Optional
+import operator
+from enum import IntEnum
+from typing import Any, Iterable, Iterator, NamedTuple, NoReturn, Optional, SupportsIndex
 
-#: The refusals in words. docs/RECORD.md says when exactly each is given.
+#: A whole number as a caller gives it: an int, or anything else that is one, such as NumPy's.
+Whole = SupportsIndex
+
+
+class Reason(IntEnum):
+    """The refusals by name. docs/RECORD.md says when exactly each is given.
+
+    >>> Reason(7)
+    <Reason.ROWS_DO_NOT_FIT: 7>
+    """
+
+    MALFORMED = 1
+    WORD_OUTSIDE = 2
+    OUT_OF_ORDER = 3
+    ZERO_COEFF = 4
+    TOO_HEAVY = 5
+    MODES_DIFFER = 6
+    ROWS_DO_NOT_FIT = 7
+    PRODUCT_TOO_HEAVY = 8
+    RESULT_TOO_HEAVY = 9
+    TOO_MANY_TERMS = 10
+    OUTPUT_TOO_SHORT = 11
+    OCCUPATION_OUTSIDE = 12
+    NOT_FINITE = 13
+    BAD_BASIS = 14
+
+
+#: The refusals in words.
 SENTENCES = {
-    1: "the header, the length, the mode count or the lengths of the lists break the rules",
+    1: "the header, the length, the mode count (1 to 64), the number of terms (at most 2,048) or the lengths of the lists "
+       "break the rules",
     2: "a word of a term is outside the modes",
     3: "a term does not stand above the one before it",
     4: "a coefficient is zero",
@@ -28,6 +58,8 @@ class Refusal(Exception):
     >>> refusal = Refusal(2, 1, 3)
     >>> print(refusal)
     refused 2 (operand 1, place 3): a word of a term is outside the modes
+    >>> refusal.reason is Reason.WORD_OUTSIDE
+    True
     """
 
     def __init__(self, number: int, operand: int, place: int) -> None:
@@ -37,12 +69,17 @@ class Refusal(Exception):
         self.place = place
 
     @property
+    def reason(self) -> Reason:
+        """The number by name; a ValueError for one that this package has no name for."""
+        return Reason(self.number)
+
+    @property
     def sentence(self) -> str:
         """The number in words."""
         return SENTENCES.get(self.number, "a refusal that this module has no words for")
 
     def __str__(self) -> str:
-        return f"refused {self.number} (operand {self.operand}, place {self.place}): {self.sentence}"
+        return f"refused {int(self.number)} (operand {self.operand}, place {self.place}): {self.sentence}"
 
 
 class Term(NamedTuple):
@@ -75,6 +112,22 @@ class Checked(NamedTuple):
     weight: int
 
 
+class Branches(NamedTuple):
+    """The branches of the products a b and b a: a work of 24 bytes for each is enough.
+
+    >>> Branches(2, 1).both
+    3
+    """
+
+    forward: int
+    backward: int
+
+    @property
+    def both(self) -> int:
+        """Those of the commutator and of the anticommutator."""
+        return self.forward + self.backward
+
+
 class Comparison(NamedTuple):
     """Whether two records are equal; if not, a bra and a ket at which their elements differ."""
 
@@ -83,27 +136,49 @@ class Comparison(NamedTuple):
     ket: Optional[int] = None
 
 
-def word(*modes: int) -> int:
+class Columns(NamedTuple):
+    """The three columns of a record: NumPy arrays where NumPy is there, else memoryviews."""
+
+    cre: Any
+    ann: Any
+    coeff: Any
+
+
+def whole(number: Whole, what: str) -> int:
+    """A Python number of what is one: others may wrap at 64 bits. Anything else is a TypeError that names the entry."""
+    try:
+        return operator.index(number)
+    except TypeError:
+        not_whole(number, what)
+
+
+def not_whole(number: object, what: str) -> NoReturn:
+    raise TypeError(f"{what} is {number!r}, not a whole number") from None
+
+
+def word(*modes: Whole) -> int:
     """The word that holds these modes. A mode given twice is in it once.
 
     >>> word(0, 2)
     5
     """
     made = 0
-    for mode in modes:
+    for place, given in enumerate(modes):
+        mode = whole(given, f"mode {place} of the word")
         if not 0 <= mode < 64:
             raise ValueError(f"a mode is 0 to 63, not {mode}")
         made |= 1 << mode
     return made
 
 
-def modes(word: int) -> Iterator[int]:
+def modes(word: Whole) -> Iterator[int]:
     """The modes of a word, ascending.
 
     >>> list(modes(5))
     [0, 2]
     """
-    return (mode for mode in range(64) if word >> mode & 1)
+    held = whole(word, "the word")
+    return (mode for mode in range(64) if held >> mode & 1)
 
 
 def _listed(word: int) -> str:
