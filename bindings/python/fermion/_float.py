@@ -15,6 +15,8 @@ from ._ladders import Products, mode_count, multiplied_out
 from ._types import Reason, Refusal, Whole
 
 Number = Union[float, complex]
+#: A call, and where it has its bra and its ket, its value and its answer.
+Prepared = Tuple[Callable[[], None], "array[int]", "array[float]", "array[int]"]
 
 
 class FloatTerms:
@@ -36,7 +38,7 @@ class FloatTerms:
     _parts: Tuple["array[float]", ...]
     _fixed: List[Any]
     _function: Any
-    _spare: List[_Prepared]
+    _spare: List[Prepared]
 
     def __init__(self, modes: Whole, terms: Iterable[Tuple[Whole, Whole, Number]]) -> None:
         cre, ann, coeff = array("Q"), array("Q"), []
@@ -88,20 +90,18 @@ class FloatTerms:
         >>> FloatTerms(2, [(word(1), 0, 0.5)]).element(word(0, 1), word(0))
         -0.5
         """
-        if type(bra) is not int or bra >> 64:  # of a number of 64 bits without a sign nothing is left above them
-            bra = as_word(bra, "the bra")
-        if type(ket) is not int or ket >> 64:
-            ket = as_word(ket, "the ket")
+        if type(bra) is not int or type(ket) is not int or bra >> 64 or ket >> 64:
+            bra, ket = as_word(bra, "the bra"), as_word(ket, "the ket")
         try:
             prepared = self._spare.pop()  # each thread that is here has one of its own
         except IndexError:
-            prepared = _Prepared(self._function, self._fixed)
-        prepared.bra.value = bra
-        prepared.ket.value = ket
-        prepared.call()
-        if prepared.answer[0]:
-            raise Refusal(*prepared.answer[:3])
-        value = prepared.value
+            prepared = self._prepared()
+        call, words, value, answer = prepared
+        words[0] = bra
+        words[1] = ket
+        call()
+        if answer[0]:
+            raise Refusal(*answer[:3])
         made = complex(value[0], value[1]) if self._complex else value[0]
         self._spare.append(prepared)
         return made
@@ -149,6 +149,13 @@ class FloatTerms:
         self._spare = []
         self._check()
 
+    def _prepared(self) -> Prepared:
+        """The call with all its arguments as ctypes passes them; only the two words change from call to call."""
+        words, value, answer = array("Q", [0, 0]), array("d", [0, 0]), array("Q", [0] * 8)
+        bra, ket = (ctypes.c_uint64.from_buffer(words, at) for at in (0, 8))
+        lent = _POINTER(place_of(value)[0]), _POINTER(place_of(answer)[0])
+        return partial(self._function, *self._fixed, bra, ket, *lent), words, value, answer
+
     def _check(self) -> None:
         """1, 2 and 13 of the list itself, by its element at 0, 0. A sum that is not finite there may never be asked for."""
         try:
@@ -156,19 +163,6 @@ class FloatTerms:
         except Refusal as refusal:
             if refusal.number != Reason.NOT_FINITE or not all(math.isfinite(part[refusal.place]) for part in self._parts):
                 raise
-
-
-class _Prepared:
-    """The library's call with all its arguments laid out; only the bra and the ket change from call to call."""
-
-    __slots__ = ("bra", "ket", "value", "answer", "call")
-    call: Callable[[], None]
-
-    def __init__(self, function: Any, fixed: Sequence[Any]) -> None:
-        self.bra, self.ket = ctypes.c_uint64(), ctypes.c_uint64()
-        self.value, self.answer = array("d", bytes(16)), array("Q", bytes(64))
-        value, answer = place_of(self.value)[0], place_of(self.answer)[0]
-        self.call = partial(function, *fixed, self.bra, self.ket, _POINTER(value), _POINTER(answer))
 
 
 # Arguments as ctypes passes them without looking at them again
