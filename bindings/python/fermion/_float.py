@@ -137,7 +137,7 @@ class FloatTerms:
         return FloatTerms, (self._modes, list(self))
 
     def _lay_out(self, modes: Whole, cre: "array[int]", ann: "array[int]", coeff: Any) -> None:
-        self._modes, self._cre, self._ann = as_word(modes, "the mode count"), cre, ann
+        self._modes, self._cre, self._ann = mode_count(modes), cre, ann
         self._complex = _has_complex(coeff)
         self._parts = as_parts(coeff, "coefficient") if self._complex else (as_floats(coeff, "coefficient"),)
         self._fixed = [_U64(self._modes)]
@@ -153,7 +153,7 @@ class FloatTerms:
         """The call with all its arguments as ctypes passes them; only the two words change from call to call."""
         words, value, answer = array("Q", [0, 0]), array("d", [0, 0]), array("Q", [0] * 8)
         bra, ket = (ctypes.c_uint64.from_buffer(words, at) for at in (0, 8))
-        lent = _POINTER(place_of(value)[0]), _POINTER(place_of(answer)[0])
+        lent = ctypes.byref(ctypes.c_double.from_buffer(value)), ctypes.byref(ctypes.c_uint64.from_buffer(answer))
         return partial(self._function, *self._fixed, bra, ket, *lent), words, value, answer
 
     def _check(self) -> None:

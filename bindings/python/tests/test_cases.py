@@ -4,36 +4,8 @@ import pickle
 import unittest
 
 import fermion
-from fermion import Applied, Comparison, Record, Refusal, Term, word
-
-EXAMPLE = bytes.fromhex("""
-    01000000 02000000 02000000 20000000 30000000 40000000 50000000 00000000
-    0100000000000000 0200000000000000 0100000000000000 0200000000000000
-    0100000000000000 FFFFFFFFFFFFFFFF""")
-ROW = 24
-
-
-def term(cre, ann, coeff=1):
-    return Term(word(*cre), word(*ann), coeff)
-
-
-def one(m, cre, ann, coeff=1):
-    return Record.build(m, [term(cre, ann, coeff)])
-
-
-class Refused:
-    """Expects a refusal with these three numbers."""
-
-    def __init__(self, test, *numbers):
-        self.test, self.numbers = test, numbers
-
-    def __enter__(self):
-        return self
-
-    def __exit__(self, kind, value, _):
-        self.test.assertIsInstance(value, Refusal, "not refused")
-        self.test.assertEqual((value.number, value.operand, value.place), self.numbers)
-        return True
+from common import EXAMPLE, ROW, Refused, one, term
+from fermion import Applied, Comparison, Record, Term, word
 
 
 class Words(unittest.TestCase):
