@@ -95,7 +95,7 @@ class Held:
         view = _PyBuffer()
         try:
             _get(memory, view, flags)
-        except BufferError as error:  # as with memoryview and ctypes: the wrong kind of object
+        except (BufferError, ValueError) as error:  # not one stretch, or not to be written: NumPy says it by a ValueError
             raise TypeError(f"{type(memory).__name__}: {error}") from None
         self._views.append(view)
         return (view.address, view.length) if view.length else (ctypes.addressof(_NOWHERE), 0)

@@ -300,7 +300,12 @@ class Record:
         return matrix
 
 
-class Product(NamedTuple):
+class _Product(NamedTuple):
+    record: Record
+    branches: int
+
+
+class Product(_Product):
     """The record of a product, and its branches: a work of 24 bytes for each is enough.
 
     It is taken wherever a record is.
@@ -310,8 +315,8 @@ class Product(NamedTuple):
     2 {|0} and 1 {|} + 1 {0|} - 2 {0|0}
     """
 
-    record: Record
-    branches: int
+    __slots__ = ()
+    __array_ufunc__ = None
 
     @property
     def _accepted(self) -> bytes:
