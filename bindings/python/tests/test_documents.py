@@ -1,22 +1,26 @@
 """The examples in docstrings and documents run, and the sentences of the refusals are those of docs/RECORD.md."""
 import doctest
+import importlib
 import os
+import pkgutil
 import re
 import tempfile
 import unittest
 from pathlib import Path
 
 import fermion
-from fermion import _calls, _face, _record, _types
+from fermion import _face, _work
 
 HERE = Path(__file__).resolve().parent
 RECORD = HERE.parents[2] / "docs" / "RECORD.md"
+HEADER = HERE.parents[2] / "include" / "fermion.h"
+MODULES = [importlib.import_module(f"fermion.{module.name}") for module in pkgutil.iter_modules(fermion.__path__)]
 NAMES = {name: getattr(fermion, name) for name in fermion.__all__}
 
 
 def load_tests(loader, tests, pattern):
     """One test for each docstring with examples, and one for the README."""
-    for module in (fermion, _calls, _face, _record, _types):
+    for module in (fermion, *MODULES):
         tests.addTests(doctest.DocTestSuite(module, extraglobs=NAMES))
     tests.addTests(doctest.DocFileSuite(str(HERE.parent / "README.md"), module_relative=False))
     return tests
@@ -45,10 +49,29 @@ class Documents(unittest.TestCase):
         self.assertEqual(names["read"](names["write"](64, [])), (64, []))
 
     def test_every_function_of_the_header_is_bound(self):
-        header = (HERE.parents[2] / "include" / "fermion.h").read_text(encoding="utf-8")
-        declared = set(re.findall(r"void fermion_(\w+)\(", header))
+        declared = set(re.findall(r"void fermion_(\w+)\(", HEADER.read_text(encoding="utf-8")))
         self.assertEqual(declared, set(_face.SHAPES))
         self.assertLessEqual(declared, set(fermion.__all__))
+
+    def test_the_names_are_those_of_the_header(self):
+        header = HEADER.read_text(encoding="utf-8")
+        listed = re.search(r"enum \w+ \{(.*?)\}", header, re.S).group(1)
+        named = {name: int(number) for name, number in re.findall(r"FERMION_(\w+) = (\d+)", listed)}
+        self.assertEqual(named, {"OK": 0, **{reason.name: reason.value for reason in fermion.Reason}})
+        constants = dict(re.findall(r"#define FERMION_(\w+) +(.*?) *(?:/\*.*)?$", header, re.M))
+        self.assertEqual(constants["VERSION"], f'"{fermion.__version__}"')
+        for name, number in [("MAX_MODES", fermion.MAX_MODES), ("MAX_TERMS", fermion.MAX_TERMS), ("MAX_RECORD", fermion.MAX_BYTES),
+                             ("MAX_BASIS", fermion.MAX_BASIS), ("ROW", _work.ROW)]:
+            self.assertEqual(int(constants[name]), number, name)
+        self.assertEqual(constants["MAX_WEIGHT"], "((uint64_t)1 << 60)")
+        self.assertEqual(fermion.MAX_WEIGHT, 1 << 60)
+
+    def test_all_names_are_there(self):
+        self.assertEqual(sorted(fermion.__all__), sorted(set(fermion.__all__)))
+        self.assertTrue((Path(fermion.__file__).parent / "py.typed").exists())
+        for name in fermion.__all__:
+            if callable(getattr(fermion, name)) and name not in ("Readable", "Writable"):
+                self.assertTrue(getattr(fermion, name).__doc__, name)
 
 
 class Loading(unittest.TestCase):

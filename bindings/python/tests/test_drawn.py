@@ -6,7 +6,7 @@ import unittest
 from pathlib import Path
 
 import fermion
-from fermion import Record, Refusal, Term
+from fermion import FloatTerms, Record, Refusal, Term
 
 sys.path.insert(0, str(Path(__file__).resolve().parents[3] / "tests"))
 import draws  # noqa: E402
@@ -138,6 +138,103 @@ class Drawn(unittest.TestCase):
                 self.assertEqual(outcome(function, a, b, work=work, out=out), expected(answer, value))
                 self.assertEqual((work, out), answer.lent)
 
+    def wide_pair(self):
+        """Two operators whose products may have more branches than 64 bits count."""
+        m = self.rng.choice((64, 60, 30))
+        left, right = ([], [])
+        for _ in range(self.rng.randint(1, 4)):
+            most = (1 << m) - 1 >> self.rng.randrange(7)
+            left.append((most & ~self.few(m), self.few(m) & self.few(m), self.rng.choice((1, -2))))
+            right.append((self.few(m) & self.few(m), most & ~self.few(m), self.rng.choice((1, -2))))
+        return [records.encode(m, records.joined(rows)) for rows in (left, right)]
+
+    def few(self, m):
+        return sum(1 << p for p in self.rng.sample(range(m), 2))
+
+    def test_branches(self):
+        seen = set()
+        for i in range(2 * CASES):
+            a, b = (self.two, self.product_pair, self.wide_pair)[i % 3]()
+            result = records.refusal_of_two(a, b)
+            if result is None:
+                (_, left), (_, right) = records.decode(a), records.decode(b)
+                result = records.branches(left, right), records.branches(right, left)
+                result = (7, 0, 0) if 24 * sum(result) > 2**63 else result
+            self.assertEqual(outcome(fermion.branches, a, b), result)
+            seen.add(result[0] if len(result) == 3 else 0)
+        self.assertLessEqual({0, 1, 2, 6, 7}, seen)
+
+    def accepted_pair(self):
+        """Two small operators on a few modes of one mode count, none damaged: their mode count and rows."""
+        m = self.rng.randint(1, 64)
+        near = self.rng.sample(range(m), min(m, 4))
+        return m, [draws.rows(self.rng, m, self.rng.randint(0, 4), "few", True, near) for _ in "ab"]
+
+    def test_operators(self):
+        for _ in range(CASES // 3):
+            m, rows = self.accepted_pair()
+            a, b = (records.encode(m, each) for each in rows)
+            x, y, work, room = Record(a), Record(b), 24 << 14, fermion.MAX_BYTES
+            scaled = lambda k: records.encode(m, [(ann, cre, k * c) for ann, cre, c in rows[0] if k])
+            k = self.rng.randint(-9, 9)
+            square = in_out(records.mul(a, a, work, room))
+            for made, expected_bytes in [
+                (x + y, in_out(records.add(a, b, room))), (x - y, in_out(records.sub(a, b, room))),
+                (x * y, in_out(records.mul(a, b, work, room))), (x.commutator(y), in_out(records.commutator(a, b, work, room))),
+                (x.anticommutator(y), in_out(records.anticommutator(a, b, work, room))),
+                (x.adjoint(), in_out(records.adjoint(a, room))), (-x, scaled(-1)), (k * x, scaled(k)), (x * k, scaled(k)),
+                (x ** 0, records.encode(m, [(0, 0, 1)])), (x ** 1, a), (x ** 2, square),
+                (x ** 3, in_out(records.mul(square, a, work, room))),
+            ]:
+                self.assertEqual(bytes(made), expected_bytes)
+            self.assertEqual((x == y, hash(x) == hash(y)), (a == b, a == b))
+
+    def ladders(self, m):
+        near = self.rng.sample(range(m), min(m, 4))
+        return [(self.rng.choice(near), self.rng.randint(0, 1)) for _ in range(self.rng.randint(0, 8))]
+
+    def by_rule(self, ladders):
+        """The product of ladders, one after the other: {(cre, ann): coefficient}."""
+        total = {(0, 0): 1}
+        for p, creates in ladders:
+            total = rule.times_ladder(total, creates, p)
+        return total
+
+    def test_ladders(self):
+        for _ in range(CASES):
+            m, rows, products = self.rng.randint(1, 64), [], []
+            for _ in range(self.rng.randint(0, 6)):
+                ladders, coeff = self.ladders(m), draws.coefficient(self.rng)
+                product = [(ann, cre, coeff * c) for (cre, ann), c in self.by_rule(ladders).items()]
+                self.assertEqual(bytes(Record.ladders(m, ladders, coeff)), records.encode(m, records.joined(product)))
+                rows += product
+                products.append((tuple(ladders), coeff))
+            result = records.joined(rows)
+            fault = records.verdict(result, fermion.MAX_BYTES)
+            made = outcome(Record.from_ladders, m, products)
+            self.assertEqual(made if fault else bytes(made), fault or records.encode(m, result))
+            if len(dict(products)) == len(products):
+                self.assertEqual(outcome(Record.from_ladders, m, dict(products)), made)
+
+    def test_indexing(self):
+        for _ in range(CASES):
+            m = self.rng.randint(1, 64)
+            rows = draws.rows(self.rng, m, self.rng.randint(0, 12), near=self.rng.sample(range(m), min(m, 3)))
+            record, known = Record(records.encode(m, rows)), {row[:2]: row[2] for row in rows}
+            words = [word for row in rows for word in row[:2]] + [self.rng.getrandbits(64), 0]
+            for ann in words:
+                for cre in words:
+                    self.assertEqual(record[cre, ann], known.get((ann, cre), 0))
+
+    def test_matrices_of_20_words(self):
+        for _ in range(CASES // 10):
+            m = self.rng.randint(5, 64)
+            near = self.rng.sample(range(m), 5)
+            rows = draws.rows(self.rng, m, self.rng.randint(0, 12), self.rng.choice(("few", "body")), near=near)
+            basis = [sum(1 << p for i, p in enumerate(near) if choice >> i & 1) for choice in self.rng.sample(range(32), 20)]
+            self.assertEqual(Record(records.encode(m, rows)).matrix(basis),
+                             [[records.element_of(rows, bra, ket) for ket in basis] for bra in basis])
+
     def test_one_record(self):
         told = lambda answer: answer.numbers[5]
         for _ in range(CASES):
@@ -217,6 +314,50 @@ class Drawn(unittest.TestCase):
             got = outcome(fermion.mat_elem_complex, m, cre, ann, list(map(complex, re, im)), bra, ket)
             got = struct.pack("<2d", got.real, got.imag) if isinstance(got, complex) else got
             self.assertEqual(got, expected(records.mat_elem_complex(m, cre, ann, *bits, bra, ket), value))
+
+    def test_laid_out_float_terms(self):
+        """By their bits; several elements of one list, so that one call leaves nothing for the next."""
+        bits_in = lambda number: struct.pack("<2d", *((number.real, number.imag) if isinstance(number, complex) else (number, 0.0)))
+        for _ in range(CASES):
+            m, cre, ann, (re, im), bra, ket = self.float_list()
+            bits = [[records.bits_of(number) for number in part] for part in (re, im)]
+            complexes = list(map(complex, re, im))
+            lists = [FloatTerms, lambda m, terms: FloatTerms.from_columns(m, *zip(*terms))] if cre else [FloatTerms]
+            for call, parts, coeff in [(records.mat_elem_real, bits[:1], re), (records.mat_elem_complex, bits, complexes)]:
+                if not coeff:
+                    continue
+                for make in lists:
+                    laid_out = outcome(make, m, list(zip(cre, ann, coeff)))
+                    refused = records.list_refusal(m, cre, ann, parts)
+                    if refused:
+                        self.assertEqual(laid_out, refused)
+                        continue
+                    for words in ((bra, ket), (ket, bra), (1 << m, ket), (bra, 1 << m), (bra, ket), (0, 0)):
+                        got = outcome(laid_out.element, *words)
+                        self.assertEqual(got if isinstance(got, tuple) else bits_in(got),
+                                         expected(call(m, cre, ann, *parts, *words), lambda answer: answer.lent[0]))
+                    self.same_matrix(laid_out, m, call, (cre, ann, *parts), bits_in)
+
+    def same_matrix(self, laid_out, m, call, lists, bits_in):
+        bras, kets = ([self.rng.randrange(1 << m) for _ in range(self.rng.randint(0, 3))] for _ in "bk")
+        answers = [[call(m, *lists, bra, ket) for ket in kets] for bra in bras]
+        refused = [tuple(answer.numbers[:3]) for row in answers for answer in row if answer.numbers[0]]
+        got = outcome(laid_out.matrix, bras, kets)
+        self.assertEqual(got if refused else [[bits_in(entry) for entry in row] for row in got],
+                         refused[0] if refused else [[answer.lent[0] for answer in row] for row in answers])
+
+    def test_float_terms_from_ladders(self):
+        for i in range(CASES):
+            m, sums, products = self.rng.randint(1, 64), {}, []
+            for _ in range(self.rng.randint(1, 6)):
+                ladders = self.ladders(m)
+                coeff = complex(self.rng.uniform(-1, 1), self.rng.uniform(-1, 1)) if i % 2 else self.rng.uniform(-1, 1)
+                for words, c in self.by_rule(ladders).items():
+                    self.assertIn(c, (1, -1))
+                    sums[words] = sums.get(words, 0.0) + (coeff if c > 0 else -coeff)
+                products.append((tuple(ladders), coeff))
+            made = {(cre, ann): coeff for cre, ann, coeff in FloatTerms.from_ladders(m, products)}
+            self.assertEqual(made, {words: coeff for words, coeff in sums.items() if coeff})
 
 
 if __name__ == "__main__":
