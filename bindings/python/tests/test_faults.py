@@ -12,10 +12,11 @@ from unittest import mock
 
 import fermion
 from common import ROW, Int64, Refused, branching, needs_numpy, one
-from fermion import FloatTerms, Record, word
-from fermion import _face, _work
+from fermion import Record, word
+from fermion import _face
 
 PACKAGE = Path(fermion.__file__).resolve().parent
+LIBRARY = Path(os.environ.get("FERMION_LIB") or PACKAGE.parents[2] / "target" / "native" / "libfermion.so").resolve()
 USE = '''
 import mmap
 from array import array
@@ -64,8 +65,8 @@ class WholeNumbers(unittest.TestCase):
             plain * int64(2**59)
         self.assertEqual(plain.element(int64(2**62), int64(5)), 8)
         self.assertEqual(fermion.apply(int64(4), int64(1), int64(3)), (6, -1))
-        self.assertEqual(FloatTerms(int64(2), [(int64(1), int64(1), 0.5)]).element(int64(1), int64(1)), 0.5)
-        for wrong in (lambda: fermion.apply(0, 0, int64(-1)), lambda: FloatTerms(2, []).element(int64(-1), 0),
+        self.assertEqual(fermion.FloatTerms(int64(2), [(int64(1), int64(1), 0.5)]).element(int64(1), int64(1)), 0.5)
+        for wrong in (lambda: fermion.apply(0, 0, int64(-1)), lambda: fermion.FloatTerms(2, []).element(int64(-1), 0),
                       lambda: Record.build(64, [(int64(-1), 0, 1)]), lambda: word(int64(64))):
             self.assertRaises(ValueError, wrong)
 
@@ -88,7 +89,7 @@ class WholeNumbers(unittest.TestCase):
             ("term 1: the creation word is 1.0,", lambda: Record.build(1, [(1, 1, 1), (1.0, 1, 1)])),
             ("term 0: the annihilation word is None,", lambda: Record.build(1, [(1, None, 1)])),
             ("the mode count is 2.0,", lambda: Record.build(2.0, [])),
-            ("the mode count is '2',", lambda: FloatTerms("2", [])),
+            ("the mode count is '2',", lambda: fermion.FloatTerms("2", [])),
             ("mode 1 of the word is 0.5,", lambda: word(1, 0.5)),
             ("product 1: the coefficient is 1.0,", lambda: Record.from_ladders(2, [((), 1), ((), 1.0)])),
             ("product 0, ladder 1: the mode is 1.0,", lambda: Record.ladders(2, [(0, 1), (1.0, 0)])),
@@ -98,12 +99,12 @@ class WholeNumbers(unittest.TestCase):
             ("basis word 2 is 3.0,", lambda: a.matrix([0, 1, 3.0])),
             ("the exponent is 0.5,", lambda: a ** 0.5),
             ("the creation word is 1.0,", lambda: a[1.0, 1]),
-            ("term 1: the creation word is 0.5,", lambda: FloatTerms(2, [(0, 0, 1.0), (0.5, 0, 1.0)])),
-            ("term 0: the coefficient is '1',", lambda: FloatTerms(2, [(0, 0, "1")])),
-            ("product 0: the coefficient is None,", lambda: FloatTerms.from_ladders(2, {(): None})),
+            ("term 1: the creation word is 0.5,", lambda: fermion.FloatTerms(2, [(0, 0, 1.0), (0.5, 0, 1.0)])),
+            ("term 0: the coefficient is '1',", lambda: fermion.FloatTerms(2, [(0, 0, "1")])),
+            ("product 0: the coefficient is None,", lambda: fermion.FloatTerms.from_ladders(2, {(): None})),
             ("coefficient 1 is '2',", lambda: fermion.mat_elem_real(1, [0, 0], [0, 0], [1.0, "2"], 0, 0)),
-            ("the ket is 1.0,", lambda: FloatTerms(2, []).element(1, 1.0)),
-            ("bra 1 is 1.0,", lambda: FloatTerms(2, []).matrix([1, 1.0], [1])),
+            ("the ket is 1.0,", lambda: fermion.FloatTerms(2, []).element(1, 1.0)),
+            ("bra 1 is 1.0,", lambda: fermion.FloatTerms(2, []).matrix([1, 1.0], [1])),
         ]:
             with self.assertRaisesRegex(TypeError, message):
                 wrong()
@@ -124,7 +125,7 @@ class Folders(unittest.TestCase):
         shutil.copytree(PACKAGE, folder, dirs_exist_ok=True, ignore=shutil.ignore_patterns("__pycache__", "*.so"))
         code = (f"import sys; sys.path.append({str(above)!r}); import {folder.name} as fermion; "
                 "print(fermion.apply(0, 0, 5).word)")
-        answer = self.ran(code, folder, FERMION_LIB=str(library()))
+        answer = self.ran(code, folder, FERMION_LIB=str(LIBRARY))
         self.assertEqual((answer.stdout, answer.stderr), ("5\n", ""))
         answer = self.ran(code, folder)
         self.assertEqual(answer.stdout, "")
@@ -140,7 +141,7 @@ class Folders(unittest.TestCase):
             self.assertIn("FileNotFoundError", absent.stderr)
             for place in (folder, Path(above, "a", "target", "native")):
                 place.mkdir(parents=True, exist_ok=True)
-                os.symlink(library(), place / "libfermion.so")
+                os.symlink(LIBRARY, place / "libfermion.so")
                 answer = self.ran(code, folder.parent)
                 self.assertEqual((answer.stdout, answer.stderr), (f"True {folder}/__init__.py\n", ""), place)
                 (place / "libfermion.so").unlink()
@@ -157,11 +158,6 @@ class Folders(unittest.TestCase):
         with self.assertRaisesRegex(ImportError, f"{other.__file__} has no function fermion_"):
             fermion.load(other.__file__)
         self.assertEqual(fermion.apply(0, 0, 5).word, 5)  # the one loaded before is still there
-
-
-def library():
-    """The file that the tests call."""
-    return _face._found(None)
 
 
 class Nested(unittest.TestCase):
@@ -224,7 +220,7 @@ class Memory(unittest.TestCase):
 
     def test_23_branching_modes(self):
         a, b = branching(23)
-        self.assertEqual((len(bytes(a)), fermion.branches(a, b).forward), (56, 2**23))
+        self.assertEqual((len(bytes(a)), len(bytes(b))), (56, 56))
 
         def refused():
             for call in (fermion.mul, fermion.commutator, fermion.anticommutator, lambda a, b: a * b):
@@ -249,6 +245,7 @@ class Memory(unittest.TestCase):
         self.assertLess(self.peak(lambda: fermion.mul(*branching(11))), (ROW << 11) + (1 << 17))
 
     def test_one_try(self):
+        from fermion import _work
         called = []
 
         def counted(name, *args):
