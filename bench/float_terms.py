@@ -23,7 +23,7 @@ import fermion  # noqa: E402
 
 LENGTHS = (16, 64, 256, 2048)
 MODES, BRA, KET = 16, 0b1111, 0b1111
-TURNS, SECONDS = 9, 0.02  # of each measurement the quickest turn counts
+TURNS, SECONDS = 9, 0.02
 MOST = 3
 
 TIMER = r"""
@@ -98,25 +98,31 @@ def in_python(terms):
 
 
 def nanoseconds(*runs):
-    """Of one call, for each of the runs: by turns, the quickest turn of each."""
+    """Of one call, for each of the runs: by turns, of which the quickest of each counts."""
     times = [max(1, int(SECONDS / (run(100) / 100))) for run in runs]
     turns = [[run(count) / count for run, count in zip(runs, times)] for _ in range(TURNS)]
     return [1e9 * min(turn) for turn in zip(*turns)]
 
 
-def main():
+def measured(lengths):
+    """For each length, real and complex: nanoseconds of the call in C, and of FloatTerms.element."""
     file = os.environ.get("FERMION_LIB") or ROOT / "target" / "native" / "libfermion.so"
     fermion.load(file)
-    library, rng, far = ctypes.CDLL(str(Path(file).resolve())), random.Random(12), []
+    library, rng = ctypes.CDLL(str(Path(file).resolve())), random.Random(12)
     with tempfile.TemporaryDirectory() as folder:
         time_calls = timer(folder)
         for with_complex in (False, True):
-            for length in LENGTHS:
+            for length in lengths:
                 terms = drawn(rng, length, with_complex)
-                call, element = nanoseconds(in_c(time_calls, library, terms, with_complex), in_python(terms))
-                print(f"{'complex' if with_complex else 'real':7} {length:5} terms: the call {call:8.0f} ns, "
-                      f"FloatTerms.element {element:8.0f} ns, {element - call:5.0f} ns more, {element / call:.2f} times")
-                far += [length] * (length == max(LENGTHS) and element > MOST * call)
+                yield (with_complex, length, *nanoseconds(in_c(time_calls, library, terms, with_complex), in_python(terms)))
+
+
+def main():
+    far = False
+    for with_complex, length, call, element in measured(LENGTHS):
+        print(f"{'complex' if with_complex else 'real':7} {length:5} terms: the call {call:8.0f} ns, "
+              f"FloatTerms.element {element:8.0f} ns, {element - call:5.0f} ns more, {element / call:.2f} times")
+        far |= length == max(LENGTHS) and element > MOST * call
     print(f"at most {MOST} times at {max(LENGTHS)} terms: {'NO' if far else 'yes'}")
     return 1 if far else 0
 

@@ -9,7 +9,7 @@ import ctypes
 from array import array
 from typing import TYPE_CHECKING, Any, Iterable, List, Optional, Sequence, Tuple, Union
 
-from ._types import Whole, not_whole, whole
+from ._types import Whole, whole
 
 if TYPE_CHECKING:
     from typing import Protocol
@@ -136,20 +136,20 @@ def place_of(numbers: "array[Any]") -> Tuple[int, int]:
     return (start, length) if length else (ctypes.addressof(_NOWHERE), 0)
 
 
-def as_word(number: Whole, what: str) -> int:
+def as_word(number: Whole, what: str, *places: int) -> int:
     """The number, if it is one of 64 bits: ctypes would cut a larger one."""
-    made = whole(number, what)
+    made = whole(number, what, *places)
     if not 0 <= made < 1 << 64:
-        raise ValueError(f"{what} is {made}, not a number of 64 bits without a sign")
+        raise ValueError(f"{what.format(*places)} is {made}, not a number of 64 bits without a sign")
     return made
 
 
 def as_words(numbers: Iterable[Whole], what: str) -> "array[int]":
-    """Words in one stretch. A list of 64-bit numbers without a sign, such as a NumPy array, is copied whole."""
+    """Words in one stretch; `what` names one by its place. A list of 64-bit numbers without a sign, such as a NumPy array, is copied whole."""
     made = array("Q")
     stretch = _stretch(numbers, "QL")
     if stretch is None:
-        made.extend(as_word(number, f"{what} {place}") for place, number in enumerate(numbers))
+        made.extend(as_word(number, what, place) for place, number in enumerate(numbers))
     else:
         made.frombytes(stretch)
     return made
@@ -166,7 +166,7 @@ def as_floats(numbers: Sequence[float], what: str) -> "array[float]":
         try:
             made.append(number)
         except TypeError:
-            raise TypeError(f"{what} {place} is {number!r}, not a real number") from None
+            raise TypeError(f"{what.format(place)} is {number!r}, not a real number") from None
     return made
 
 
@@ -183,7 +183,7 @@ def as_parts(numbers: Sequence[complex], what: str) -> "Tuple[array[float], arra
             real.append(number.real)
             imaginary.append(number.imag)
         except (AttributeError, TypeError):
-            raise TypeError(f"{what} {place} is {number!r}, not a complex number") from None
+            raise TypeError(f"{what.format(place)} is {number!r}, not a complex number") from None
     return real, imaginary
 
 

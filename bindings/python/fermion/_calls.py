@@ -7,7 +7,8 @@ from typing import Iterable, List, Optional, Sequence, Tuple
 
 from ._buffers import Readable, Writable, as_floats, as_parts, as_word, as_words, view_of
 from ._face import call
-from ._record import Product, Record, projected, signed
+from ._matrix import projected, signed
+from ._record import Product, Record
 from ._types import Applied, Branches, Checked, Comparison, Term, Whole
 from ._work import HEADER, ROW, WORK_CEILING, adjoined, front, multiplied, rows_for, summed
 
@@ -26,7 +27,7 @@ def apply(cre: Whole, ann: Whole, ket: Whole) -> Optional[Applied]:
 
 
 def mul_cmpnts(left: Tuple[Whole, Whole], right: Tuple[Whole, Whole], *, out: Optional[Writable] = None,
-               ceiling: int = WORK_CEILING) -> List[Term]:
+               ceiling: Whole = WORK_CEILING) -> List[Term]:
     """The terms of the product of two terms, each given as (creation word, annihilation word).
 
     There are 2^b of them for b modes that branch. Refusal 7: their rows do not fit into `out`, or, where none is lent, into
@@ -69,7 +70,7 @@ def sub(a: Readable, b: Readable, *, out: Optional[Writable] = None) -> Record:
 
 
 def mul(a: Readable, b: Readable, *, work: Optional[Writable] = None, out: Optional[Writable] = None,
-        ceiling: int = WORK_CEILING) -> Product:
+        ceiling: Whole = WORK_CEILING) -> Product:
     """The product a b. Refusals: 1 to 6, 8, 7, 10, 9; and 11 for an `out` that is lent.
 
     Where no `work` is lent, the branches are counted first and memory is taken for exactly these; 7 is given where that is
@@ -84,7 +85,7 @@ def mul(a: Readable, b: Readable, *, work: Optional[Writable] = None, out: Optio
 
 
 def commutator(a: Readable, b: Readable, *, work: Optional[Writable] = None, out: Optional[Writable] = None,
-               ceiling: int = WORK_CEILING) -> Product:
+               ceiling: Whole = WORK_CEILING) -> Product:
     """The commutator a b - b a. Refusals and `work`: as for a product.
 
     >>> raising, lowering = Record.build(2, [(1, 2, 1)]), Record.build(2, [(2, 1, 1)])
@@ -95,7 +96,7 @@ def commutator(a: Readable, b: Readable, *, work: Optional[Writable] = None, out
 
 
 def anticommutator(a: Readable, b: Readable, *, work: Optional[Writable] = None, out: Optional[Writable] = None,
-                   ceiling: int = WORK_CEILING) -> Product:
+                   ceiling: Whole = WORK_CEILING) -> Product:
     """The anticommutator a b + b a. Refusals and `work`: as for a product.
 
     >>> print(anticommutator(Record.build(1, [(0, 1, 1)]), Record.build(1, [(1, 0, 1)])).record)
@@ -190,7 +191,7 @@ def mat_ortho_projected(a: Readable, basis: Iterable[Whole]) -> List[List[int]]:
     >>> mat_ortho_projected(Record.build(2, [(1, 2, 3), (2, 2, 5)]), [word(0), word(1)])
     [[0, 3], [0, 5]]
     """
-    return projected(a, as_words(basis, "basis word"))
+    return projected(a, as_words(basis, "basis word {}"))
 
 
 def compare(a: Readable, b: Readable) -> Comparison:
@@ -213,7 +214,7 @@ def mat_elem_real(m: Whole, cre: Iterable[Whole], ann: Iterable[Whole], coeff: S
     0.75
     """
     value = (ctypes.c_double * 2)()
-    call("mat_elem_real", *_words(m, cre, ann), as_floats(coeff, "coefficient"), *_ends(bra, ket), value)
+    call("mat_elem_real", *_words(m, cre, ann), as_floats(coeff, "coefficient {}"), *_ends(bra, ket), value)
     return value[0]
 
 
@@ -225,7 +226,7 @@ def mat_elem_complex(m: Whole, cre: Iterable[Whole], ann: Iterable[Whole], coeff
     (0.25+0.5j)
     """
     value = (ctypes.c_double * 2)()
-    call("mat_elem_complex", *_words(m, cre, ann), *as_parts(coeff, "coefficient"), *_ends(bra, ket), value)
+    call("mat_elem_complex", *_words(m, cre, ann), *as_parts(coeff, "coefficient {}"), *_ends(bra, ket), value)
     return complex(value[0], value[1])
 
 
@@ -242,13 +243,13 @@ def _alone(cre: int, ann: int) -> bytes:
 
 
 def _multiplied(name: str, a: Readable, b: Readable, work: Optional[Writable], out: Optional[Writable],
-                ceiling: int) -> Product:
+                ceiling: Whole) -> Product:
     record, count = multiplied(name, a, b, work, out, ceiling)
     return Product(Record._written(record), count)
 
 
 def _words(m: Whole, cre: Iterable[Whole], ann: Iterable[Whole]) -> Tuple[object, ...]:
-    return as_word(m, "the mode count"), as_words(cre, "creation word"), as_words(ann, "annihilation word")
+    return as_word(m, "the mode count"), as_words(cre, "creation word {}"), as_words(ann, "annihilation word {}")
 
 
 def _ends(bra: Whole, ket: Whole) -> Tuple[int, int]:

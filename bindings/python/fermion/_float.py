@@ -43,9 +43,9 @@ class FloatTerms:
     def __init__(self, modes: Whole, terms: Iterable[Tuple[Whole, Whole, Number]]) -> None:
         cre, ann, coeff = array("Q"), array("Q"), []
         for place, (creations, annihilations, number) in enumerate(terms):
-            cre.append(as_word(creations, f"term {place}: the creation word"))
-            ann.append(as_word(annihilations, f"term {place}: the annihilation word"))
-            coeff.append(_number(number, f"term {place}: the coefficient"))
+            cre.append(as_word(creations, "term {}: the creation word", place))
+            ann.append(as_word(annihilations, "term {}: the annihilation word", place))
+            coeff.append(_number(number, "term {}: the coefficient", place))
         self._lay_out(modes, cre, ann, coeff)
 
     @classmethod
@@ -57,7 +57,7 @@ class FloatTerms:
         0.25j
         """
         made = cls.__new__(cls)
-        made._lay_out(modes, as_words(cre, "creation word"), as_words(ann, "annihilation word"), coeff)
+        made._lay_out(modes, as_words(cre, "creation word {}"), as_words(ann, "annihilation word {}"), coeff)
         return made
 
     @classmethod
@@ -72,9 +72,8 @@ class FloatTerms:
         """
         m = mode_count(modes)
         sums: Dict[Tuple[int, int], Number] = {}
-        for cre, ann, sign, coeff, place in multiplied_out(m, terms):
-            number = sign * _number(coeff, f"product {place}: the coefficient")
-            sums[cre, ann] = sums[cre, ann] + number if (cre, ann) in sums else number
+        for cre, ann, count, coeff in multiplied_out(m, terms, _number):
+            sums[cre, ann] = sums.get((cre, ann), 0.0) + count * coeff
         return cls(m, [(cre, ann, number) for (cre, ann), number in sums.items() if number != 0])
 
     @property
@@ -115,7 +114,7 @@ class FloatTerms:
         >>> FloatTerms(2, [(word(1), word(0), 2.0)]).matrix([word(1)], [word(0), word(1)])
         [[2.0, 0.0]]
         """
-        rows, columns = as_words(bras, "bra"), as_words(kets, "ket")
+        rows, columns = as_words(bras, "bra {}"), as_words(kets, "ket {}")
         for operand, words in ((3, rows), (4, columns)):
             for place, word in enumerate(words):
                 if word >> self._modes:
@@ -139,7 +138,7 @@ class FloatTerms:
     def _lay_out(self, modes: Whole, cre: "array[int]", ann: "array[int]", coeff: Any) -> None:
         self._modes, self._cre, self._ann = mode_count(modes), cre, ann
         self._complex = _has_complex(coeff)
-        self._parts = as_parts(coeff, "coefficient") if self._complex else (as_floats(coeff, "coefficient"),)
+        self._parts = as_parts(coeff, "coefficient {}") if self._complex else (as_floats(coeff, "coefficient {}"),)
         self._fixed = [_U64(self._modes)]
         columns: List["array[Any]"] = [cre, ann, *self._parts]
         for column in columns:
@@ -173,11 +172,11 @@ def _has_complex(coeff: Any) -> bool:
     return any(issubclass(kind, Complex) and not issubclass(kind, Real) for kind in set(map(type, coeff)))
 
 
-def _number(coeff: Any, what: str) -> Number:
+def _number(coeff: Any, what: str, place: int) -> Number:
     """A float or a complex number of what is one; text is neither."""
     if _has_complex([coeff]):
         return complex(coeff)
     try:
         return float(*struct.unpack("d", struct.pack("d", coeff)))  # float() itself would read text
     except struct.error:
-        raise TypeError(f"{what} is {coeff!r}, not a number") from None
+        raise TypeError(f"{what.format(place)} is {coeff!r}, not a number") from None

@@ -3,7 +3,7 @@ from __future__ import annotations
 
 import ctypes
 import struct
-from typing import Any, Dict, Iterable, Iterator, List, Mapping, Tuple, TypeVar, Union
+from typing import Any, Callable, Dict, Iterable, Iterator, List, Mapping, Tuple, TypeVar, Union
 
 from ._face import function
 from ._types import Refusal, Whole, whole
@@ -47,8 +47,8 @@ class Multiplier:
     def _words(self, ladders: Ladders, place: int) -> Iterator[Tuple[int, int]]:
         """Each ladder as a term's two words."""
         for at, (mode, action) in enumerate(ladders):
-            mode = whole(mode, f"product {place}, ladder {at}: the mode")
-            action = whole(action, f"product {place}, ladder {at}: the action")
+            mode = whole(mode, "product {}, ladder {}: the mode", place, at)
+            action = whole(action, "product {}, ladder {}: the action", place, at)
             if action not in (0, 1):
                 raise ValueError(f"product {place}, ladder {at}: the action is {action}, not 1 (creation) or 0 (annihilation)")
             if not 0 <= mode < self.modes:
@@ -82,10 +82,13 @@ def mode_count(modes: Whole) -> int:
     return count
 
 
-def multiplied_out(modes: int, products: Products[T]) -> Iterator[Tuple[int, int, int, T, int]]:
-    """The terms of each product in turn: creation word, annihilation word, sign, the product's coefficient and place."""
+def multiplied_out(modes: int, products: Products[Any], number: Callable[[Any, str, int], T]
+                   ) -> Iterator[Tuple[int, int, int, T]]:
+    """The terms of each product in turn: creation word, annihilation word, whole number, and the product's coefficient, of
+    which `number` makes one or raises a TypeError that names it."""
     multiplier = Multiplier(modes)
     pairs = products.items() if isinstance(products, Mapping) else products
-    for place, (ladders, coeff) in enumerate(pairs):
-        for (cre, ann), sign in multiplier.product(ladders, place).items():
-            yield cre, ann, sign, coeff, place
+    for place, (ladders, given) in enumerate(pairs):
+        coeff = number(given, "product {}: the coefficient", place)
+        for (cre, ann), count in multiplier.product(ladders, place).items():
+            yield cre, ann, count, coeff

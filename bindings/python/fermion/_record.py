@@ -3,16 +3,16 @@ from __future__ import annotations
 
 import importlib
 import struct
-from array import array
 from bisect import bisect_left
-from itertools import combinations
-from typing import Any, Dict, Iterable, Iterator, List, NamedTuple, Optional, Tuple, Union
+from typing import Any, Iterable, Iterator, List, NamedTuple, Optional, Tuple, Union
 
 from ._buffers import Readable, as_word, as_words, copy_of
+from ._build import built
 from ._face import call
 from ._ladders import Ladders, Products, mode_count, multiplied_out
-from ._types import Columns, Refusal, Term, Whole, whole, written_out
-from ._work import HEADER, MAX_BASIS, MAX_TERMS, MAX_WEIGHT, ROW, adjoined, multiplied, summed
+from ._matrix import signed, tiled
+from ._types import Columns, Term, Whole, whole, written_out
+from ._work import HEADER, ROW, adjoined, multiplied, summed
 
 
 class Record:
@@ -65,13 +65,7 @@ class Record:
         Traceback (most recent call last):
         TypeError: term 1: the coefficient is 1.5, not a whole number
         """
-        m = mode_count(modes)
-        joined = _joined(m, terms)
-        if len(joined) > MAX_TERMS:
-            raise Refusal(10, 0, 0)
-        if sum(abs(term.coeff) for term in joined) > MAX_WEIGHT:
-            raise Refusal(9, 0, 0)
-        return cls(_encode(m, joined))
+        return cls(built(mode_count(modes), terms))
 
     @classmethod
     def ladders(cls, modes: Whole, ladders: Ladders, coeff: Whole = 1) -> Record:
@@ -96,9 +90,7 @@ class Record:
         7 {|} + 2 {0|1}
         """
         m = mode_count(modes)
-        return cls.build(m, (
-            (cre, ann, sign * whole(coeff, f"product {place}: the coefficient"))
-            for cre, ann, sign, coeff, place in multiplied_out(m, terms)))
+        return cls.build(m, ((cre, ann, count * coeff) for cre, ann, count, coeff in multiplied_out(m, terms, whole)))
 
     @classmethod
     def _written(cls, data: bytes) -> Record:
@@ -205,14 +197,8 @@ class Record:
     def __mul__(self, other: Union[Operand, Whole]) -> Record:
         return _product(self, other)
 
-    def __radd__(self, other: Operand) -> Record:
-        return Record._written(summed("add", other, self)) if isinstance(other, _operands) else NotImplemented
-
-    def __rsub__(self, other: Operand) -> Record:
-        return Record._written(summed("sub", other, self)) if isinstance(other, _operands) else NotImplemented
-
-    def __rmul__(self, other: Union[Operand, Whole]) -> Record:
-        return Record._written(multiplied("mul", other, self)[0]) if isinstance(other, _operands) else _product(self, other)
+    def __rmul__(self, other: Whole) -> Record:
+        return _product(self, other)
 
     def __neg__(self) -> Record:
         return Record.build(self.modes, []) - self
@@ -289,15 +275,7 @@ class Record:
         >>> Record.build(2, [(1, 2, 3), (2, 2, 5)]).matrix([word(0), word(1)])
         [[0, 3], [0, 5]]
         """
-        words = as_words(basis, "basis word")
-        _look_at(words, self.modes)
-        matrix = [[0] * len(words) for _ in words]
-        for places in _tiles(len(words)):
-            tile = projected(self, array("Q", [words[i] for i in places]))
-            for i, row in zip(places, tile):
-                for j, entry in zip(places, row):
-                    matrix[i][j] = entry
-        return matrix
+        return tiled(self, self.modes, as_words(basis, "basis word {}"))
 
 
 class _Product(NamedTuple):
@@ -353,18 +331,6 @@ Operand = Union[Record, Product]
 _operands = (Record, Product)
 
 
-def signed(number: int) -> int:
-    """The number that an answer holds as its two's complement."""
-    return number - (number >> 63 << 64)
-
-
-def projected(a: Readable, words: "array[int]") -> List[List[int]]:
-    """The matrix between up to 8 words, in one call."""
-    matrix = array("q", bytes(8 * MAX_BASIS**2))
-    call("mat_ortho_projected", a, words, matrix.buffer_info()[0])
-    return [list(matrix[MAX_BASIS * i:MAX_BASIS * i + len(words)]) for i in range(len(words))]
-
-
 def _product(a: Record, other: Any) -> Record:
     """A record times a record on its right, or times a whole number: that is the term {|} with this coefficient."""
     if not isinstance(other, _operands):
@@ -374,49 +340,8 @@ def _product(a: Record, other: Any) -> Record:
     return Record._written(multiplied("mul", a, other)[0])
 
 
-def _look_at(basis: "array[int]", modes: int) -> None:
-    """What `fermion_mat_ortho_projected` refuses in a basis but for its length: 12 in turn, then 14 for a repeat."""
-    for place, word in enumerate(basis):
-        if word >> modes:
-            raise Refusal(12, 3, place)
-    seen = set()
-    for place, word in enumerate(basis):
-        if word in seen:
-            raise Refusal(14, 3, place)
-        seen.add(word)
-
-
-def _tiles(length: int) -> Iterable[List[int]]:
-    """Places in a basis, at most 8 at a time, so that every two stand together once: halves of 4, each with each."""
-    half = MAX_BASIS // 2
-    parts = [list(range(start, min(start + half, length))) for start in range(0, length, half)]
-    if len(parts) < 2:
-        return parts
-    return (first + second for first, second in combinations(parts, 2))
-
-
 def _numpy() -> Any:
     try:
         return importlib.import_module("numpy")
     except ImportError:
         return None
-
-
-def _joined(modes: int, terms: Iterable[Tuple[Whole, Whole, Whole]]) -> List[Term]:
-    """The terms ascending by (annihilation, creation), each pair of words once, without zeros."""
-    sums: Dict[Tuple[int, int], int] = {}
-    for place, (cre, ann, coeff) in enumerate(terms):
-        cre = as_word(cre, f"term {place}: the creation word")
-        ann = as_word(ann, f"term {place}: the annihilation word")
-        coeff = whole(coeff, f"term {place}: the coefficient")
-        if cre >> modes or ann >> modes:
-            raise Refusal(2, 1, place)
-        sums[ann, cre] = sums.get((ann, cre), 0) + coeff
-    return [Term(cre, ann, coeff) for (ann, cre), coeff in sorted(sums.items()) if coeff]
-
-
-def _encode(modes: int, terms: List[Term]) -> bytes:
-    n = len(terms)
-    header = struct.pack("<8I", 1, modes, n, HEADER, HEADER + 8 * n, HEADER + 16 * n, HEADER + ROW * n, 0)
-    words = struct.pack(f"<{2 * n}Q", *(term.ann for term in terms), *(term.cre for term in terms))
-    return header + words + struct.pack(f"<{n}q", *(term.coeff for term in terms))

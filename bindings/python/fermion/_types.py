@@ -3,7 +3,7 @@ from __future__ import annotations
 
 import operator
 from enum import IntEnum
-from typing import Any, Iterable, Iterator, NamedTuple, NoReturn, Optional, SupportsIndex
+from typing import Any, Iterable, Iterator, NamedTuple, Optional, SupportsIndex
 
 #: A whole number as a caller gives it: an int, or anything else that is one, such as NumPy's.
 Whole = SupportsIndex
@@ -144,16 +144,13 @@ class Columns(NamedTuple):
     coeff: Any
 
 
-def whole(number: Whole, what: str) -> int:
-    """A Python number of what is one: others may wrap at 64 bits. Anything else is a TypeError that names the entry."""
+def whole(number: Whole, what: str, *places: int) -> int:
+    """A Python number of what is one: others may wrap at 64 bits. Anything else is a TypeError that names the entry, `what`
+    with its places put in."""
     try:
         return operator.index(number)
     except TypeError:
-        not_whole(number, what)
-
-
-def not_whole(number: object, what: str) -> NoReturn:
-    raise TypeError(f"{what} is {number!r}, not a whole number") from None
+        raise TypeError(f"{what.format(*places)} is {number!r}, not a whole number") from None
 
 
 def word(*modes: Whole) -> int:
@@ -164,7 +161,7 @@ def word(*modes: Whole) -> int:
     """
     made = 0
     for place, given in enumerate(modes):
-        mode = whole(given, f"mode {place} of the word")
+        mode = whole(given, "mode {} of the word", place)
         if not 0 <= mode < 64:
             raise ValueError(f"a mode is 0 to 63, not {mode}")
         made |= 1 << mode

@@ -5,7 +5,7 @@ from typing import Any, Optional, Tuple
 
 from ._buffers import Readable, Writable, length_of
 from ._face import call
-from ._types import Reason, Refusal
+from ._types import Reason, Refusal, Whole, whole
 
 MAX_MODES = 64
 MAX_TERMS = 2048
@@ -32,7 +32,7 @@ def adjoined(a: Readable, out: Optional[Writable] = None) -> bytes:
 
 
 def multiplied(name: str, a: Readable, b: Readable, work: Optional[Writable] = None, out: Optional[Writable] = None,
-               ceiling: int = WORK_CEILING) -> Tuple[bytes, int]:
+               ceiling: Whole = WORK_CEILING) -> Tuple[bytes, int]:
     """The record of a product, a commutator or an anticommutator, and its branches."""
     rows: Any = rows_for(name, a, b, ceiling) if work is None else work
     room = _room(out, HEADER + length_of(rows) // ROW * ROW)  # no more terms than rows
@@ -40,21 +40,25 @@ def multiplied(name: str, a: Readable, b: Readable, work: Optional[Writable] = N
     return front(room, answer[3]), answer[4]
 
 
-def rows_for(name: str, a: Readable, b: Readable, ceiling: int) -> bytearray:
-    """Memory for exactly the rows that the call has; none at all where they are too many, so that it is refused."""
+def rows_for(name: str, a: Readable, b: Readable, ceiling: Whole) -> bytearray:
+    """Memory for exactly the rows that the call has; none at all where they are too many, so that it is refused.
+
+    Both orders together may have more branches than can be counted, while a b alone has few: then it is given what nobody has
+    to ask for.
+    """
+    most = max(0, whole(ceiling, "the ceiling"))
     try:
         forward, backward = call("branches", a, b)[4:6]
     except Refusal as refusal:
         if refusal.number != Reason.ROWS_DO_NOT_FIT:
             raise
-        return bytearray()
+        return bytearray(min(most, WORK_CEILING) if name == "mul" else 0)
     needed = ROW * (forward if name == "mul" else forward + backward)
-    return bytearray(needed if needed <= ceiling else 0)
+    return bytearray(needed if needed <= most else 0)
 
 
 def front(room: Any, length: int) -> bytes:
-    with memoryview(room) as view, view.cast("B") as whole:
-        return bytes(whole[:length])
+    return memoryview(room).cast("B")[:length].tobytes()
 
 
 def _room(out: Optional[Writable], needed: int) -> Any:

@@ -271,6 +271,15 @@ class Memory(unittest.TestCase):
         with Refused(self, 6, 0, 0):
             fermion.mul(a, one(2, (), ()))
 
+    def test_few_branches_whose_other_order_has_too_many_to_count(self):
+        annihilate, create = branching(64)
+        full = 2**64 - 1
+        self.assertEqual(fermion.mul(create, annihilate), (Record.build(64, [(full, full, 1)]), 1))
+        self.assertEqual(fermion.mul_cmpnts((full, 0), (0, full)), [(full, full, 1)])
+        for call in (fermion.commutator, fermion.anticommutator):
+            with Refused(self, 7, 0, 0):
+                call(create, annihilate)
+
 
 if __name__ == "__main__":
     unittest.main()

@@ -1,15 +1,20 @@
 """FloatTerms on examples worked out by hand; test_drawn.py has drawn ones."""
 import array
 import importlib
+import importlib.util
 import math
 import pickle
+import shutil
 import threading
 import unittest
 from decimal import Decimal
 from fractions import Fraction
+from pathlib import Path
 
 from common import Refused, needs_numpy
 from fermion import FloatTerms, Record, word
+
+BENCH = Path(__file__).resolve().parents[3] / "bench" / "float_terms.py"
 
 
 class Terms(unittest.TestCase):
@@ -127,6 +132,15 @@ class Terms(unittest.TestCase):
         for thread in threads:
             thread.join()
         self.assertEqual(wrong, [])
+
+    def test_an_element_costs_at_most_three_times_the_call_in_c(self):
+        if not (shutil.which("cc") or shutil.which("gcc")):
+            self.skipTest("there is no C compiler, with which the call is timed")
+        spec = importlib.util.spec_from_file_location("float_terms", BENCH)
+        bench = importlib.util.module_from_spec(spec)
+        spec.loader.exec_module(bench)
+        for with_complex, length, call, element in bench.measured([2048]):
+            self.assertLessEqual(element, 3 * call, (with_complex, length))
 
 
 if __name__ == "__main__":

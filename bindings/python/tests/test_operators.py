@@ -9,7 +9,7 @@ from unittest import mock
 import fermion
 from common import EXAMPLE, Int64, Refused, needs_numpy, one, term
 from fermion import Reason, Record, Refusal, Term, hopping, interaction, number, word
-from fermion import _record
+from fermion import _matrix, _record
 
 
 class Arithmetic(unittest.TestCase):
@@ -250,11 +250,11 @@ class Matrices(unittest.TestCase):
 
     def test_every_entry_is_asked_for_in_few_calls(self):
         for length in range(1, 40):
-            tiles = list(_record._tiles(length))
+            tiles = list(_matrix.tiles(length))
             together = {(i, j) for tile in tiles for i in tile for j in tile}
             self.assertEqual(together, {(i, j) for i in range(length) for j in range(length)})
             self.assertLessEqual(max(map(len, tiles)), 8)
-        self.assertEqual([len(list(_record._tiles(length))) for length in (8, 9, 16, 40)], [1, 3, 6, 45])
+        self.assertEqual([len(list(_matrix.tiles(length))) for length in (8, 9, 16, 40)], [1, 3, 6, 45])
 
 
 class Names(unittest.TestCase):
