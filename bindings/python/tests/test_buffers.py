@@ -10,6 +10,7 @@ import unittest
 import fermion
 from common import EXAMPLE, Refused, needs_numpy, one
 from fermion import Record, Refusal
+from fermion import _buffers
 
 LONG = 1 << 22
 
@@ -96,6 +97,10 @@ class Handed(unittest.TestCase):
                 fermion.check(empty)
             with Refused(self, 11, 0, 0) if not isinstance(empty, (bytes, memoryview)) else self.assertRaises(TypeError):
                 fermion.add(EXAMPLE, EXAMPLE, out=empty)
+            held = _buffers.Held()
+            self.assertTrue(held.read(empty)[0] or isinstance(empty, bytes), "a null pointer")
+            held.release()
+        self.assertTrue(_buffers.place_of(array.array("Q"))[0], "a null pointer")
         self.assertEqual(fermion.mul_cmpnts((1, 0), (1, 0), out=bytearray()), [])
 
 

@@ -104,6 +104,7 @@ class WholeNumbers(unittest.TestCase):
             ("product 0: the coefficient is None,", lambda: fermion.FloatTerms.from_ladders(2, {(): None})),
             ("coefficient 1 is '2',", lambda: fermion.mat_elem_real(1, [0, 0], [0, 0], [1.0, "2"], 0, 0)),
             ("the ket is 1.0,", lambda: fermion.FloatTerms(2, []).element(1, 1.0)),
+            ("the ceiling is 1e\\+16,", lambda: fermion.mul(a, a, ceiling=1e16)),
             ("bra 1 is 1.0,", lambda: fermion.FloatTerms(2, []).matrix([1, 1.0], [1])),
         ]:
             with self.assertRaisesRegex(TypeError, message):
@@ -229,6 +230,15 @@ class Memory(unittest.TestCase):
             with Refused(self, 7, 0, 0):
                 fermion.mul_cmpnts((0, 2**23 - 1), (2**23 - 1, 0))
         self.assertLess(self.peak(refused), 1 << 16)
+
+    def test_more_branches_than_can_be_counted(self):
+        a, b = branching(64)
+
+        def refused(call):
+            with Refused(self, 7, 0, 0):
+                call(a, b)
+        self.assertLess(self.peak(lambda: refused(fermion.commutator)), 1 << 16)
+        self.assertLess(self.peak(lambda: refused(fermion.mul)), (1 << 24) + (1 << 16))
 
     def test_more_is_the_callers_word(self):
         self.assertEqual(fermion.WORK_CEILING, 1 << 24)

@@ -110,6 +110,9 @@ class Terms(unittest.TestCase):
             self.assertEqual([number for _, _, number in FloatTerms.from_columns(1, [0] * n, [0] * n, part)], part.tolist())
         self.assertEqual(FloatTerms.from_columns(64, *words, [1.0, 2.0]).matrix(numpy.array([1]), numpy.array([2, 3])), [[1.0, 0.0]])
         self.assertRaises(ValueError, FloatTerms.from_columns, 64, numpy.array([-1]), [0], [1.0])
+        square = numpy.ones((2, 2), numpy.uint64)
+        self.assertRaises(TypeError, FloatTerms.from_columns, 64, square, square, [1.0] * 4)
+        self.assertRaises(TypeError, FloatTerms.from_columns, 64, [0] * 4, [0] * 4, numpy.ones((2, 2)))
 
     def test_copies(self):
         for terms in (FloatTerms(2, [(1, 2, 0.1), (0, 0, -0.0)]), FloatTerms(2, [(1, 2, 0.1j)])):
