@@ -6,6 +6,8 @@ can only be read, such as a file mapped read-only, two functions of Python's C i
 from __future__ import annotations
 
 import ctypes
+import operator
+import struct
 from array import array
 from typing import TYPE_CHECKING, Any, Iterable, List, Optional, Sequence, Tuple, Union
 
@@ -145,46 +147,58 @@ def as_word(number: Whole, what: str, *places: int) -> int:
 
 
 def as_words(numbers: Iterable[Whole], what: str) -> "array[int]":
-    """Words in one stretch; `what` names one by its place. A list of 64-bit numbers without a sign, such as a NumPy array, is copied whole."""
-    made = array("Q")
-    stretch = _stretch(numbers, "QL")
-    if stretch is None:
-        made.extend(as_word(number, what, place) for place, number in enumerate(numbers))
-    else:
-        made.frombytes(stretch)
-    return made
-
-
-def as_floats(numbers: Sequence[float], what: str) -> "array[float]":
-    """Floats in one stretch. A list of binary64s, such as a NumPy array, is copied whole."""
-    made = array("d")
-    stretch = _stretch(numbers, "d")
+    """Words in one stretch; `what` names one by its place. A list of 64-bit numbers without a sign, such as a NumPy array, is
+    copied whole."""
+    made, stretch = array("Q"), _stretch(numbers, "QL")
     if stretch is not None:
         made.frombytes(stretch)
         return made
-    for place, number in enumerate(numbers):
-        try:
-            made.append(number)
-        except TypeError:
-            raise TypeError(f"{what.format(place)} is {number!r}, not a real number") from None
+    listed = list(numbers)
+    try:
+        made.extend(map(operator.index, listed))
+    except (TypeError, OverflowError):
+        for place, number in enumerate(listed):
+            as_word(number, what, place)
+        raise
     return made
 
 
-def as_parts(numbers: Sequence[complex], what: str) -> "Tuple[array[float], array[float]]":
+def as_float(number: Any, what: str, place: int) -> float:
+    """The number, if it is a real one: `float` would read text too."""
+    try:
+        return float(*struct.unpack("d", struct.pack("d", number)))
+    except struct.error:
+        raise TypeError(f"{what.format(place)} is {number!r}, not a real number") from None
+
+
+def as_floats(numbers: Iterable[float], what: str) -> "array[float]":
+    """Floats in one stretch. A list of binary64s, such as a NumPy array, is copied whole."""
+    made, stretch = array("d"), _stretch(numbers, "d")
+    if stretch is not None:
+        made.frombytes(stretch)
+        return made
+    listed = list(numbers)
+    try:
+        made.extend(listed)
+    except TypeError:
+        for place, number in enumerate(listed):
+            as_float(number, what, place)
+        raise
+    return made
+
+
+def as_parts(numbers: Iterable[complex], what: str) -> "Tuple[array[float], array[float]]":
     """Real parts and imaginary parts, each in one stretch."""
     stretch = _stretch(numbers, ("Zd",))
     if stretch is not None:
         both = array("d")
         both.frombytes(stretch)
         return both[::2], both[1::2]
-    real, imaginary = array("d"), array("d")
-    for place, number in enumerate(numbers):
-        try:
-            real.append(number.real)
-            imaginary.append(number.imag)
-        except (AttributeError, TypeError):
-            raise TypeError(f"{what.format(place)} is {number!r}, not a complex number") from None
-    return real, imaginary
+    listed = list(numbers)
+    for place, number in enumerate(listed):
+        if not (hasattr(number, "real") and hasattr(number, "imag")):
+            raise TypeError(f"{what.format(place)} is {number!r}, not a complex number")
+    return as_floats([number.real for number in listed], what), as_floats([number.imag for number in listed], what)
 
 
 def _stretch(numbers: Any, formats: Sequence[str]) -> Optional[bytes]:

@@ -3,13 +3,12 @@ from __future__ import annotations
 
 import ctypes
 import math
-import struct
 from array import array
 from functools import partial
 from numbers import Complex, Real
 from typing import Any, Callable, Dict, Iterable, Iterator, List, Sequence, Tuple, Union
 
-from ._buffers import as_floats, as_parts, as_word, as_words, place_of
+from ._buffers import as_float, as_floats, as_parts, as_word, as_words, place_of
 from ._face import bare
 from ._ladders import Products, mode_count, multiplied_out
 from ._types import Reason, Refusal, Whole
@@ -174,9 +173,4 @@ def _has_complex(coeff: Any) -> bool:
 
 def _number(coeff: Any, what: str, place: int) -> Number:
     """A float or a complex number of what is one; text is neither."""
-    if _has_complex([coeff]):
-        return complex(coeff)
-    try:
-        return float(*struct.unpack("d", struct.pack("d", coeff)))  # float() itself would read text
-    except struct.error:
-        raise TypeError(f"{what.format(place)} is {coeff!r}, not a number") from None
+    return complex(coeff) if _has_complex([coeff]) else as_float(coeff, what, place)
