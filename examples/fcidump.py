@@ -1,0 +1,282 @@
+#!/usr/bin/env python3
+"""FCIDUMP files: the integrals of a molecule, and its Hamiltonian as float terms or as a record of whole numbers.
+
+    python3 examples/fcidump.py [FILE..]    what each file holds, and how its Hamiltonian fits into a record; without names,
+                                            the files of examples/molecules
+
+An FCIDUMP (P. J. Knowles and N. C. Handy, Computer Physics Communications 54 (1989) 75) has a header, &FCI NORB= NELEC= MS2=
+ORBSYM= ISYM= &END, and then a line for each integral over real orbitals, its value and four indices that count from 1:
+i j k l is (ij|kl) in chemists' notation, charge clouds ij and kl; i j 0 0 is the core Hamiltonian's h_ij; i 0 0 0 is an orbital
+energy, not used here; 0 0 0 0 is the energy of the nuclei and of frozen orbitals. Each of the eight (ij|kl), (ji|kl), .., (lk|ji)
+stands for all; one that is left out is zero.
+
+Orbital p, counted from 0, is mode 2 p with spin up and mode 2 p + 1 with spin down.
+"""
+import glob
+import math
+import os
+import re
+import shutil
+import sys
+from collections import Counter
+from typing import Dict, NamedTuple, Tuple
+
+ROOT = os.path.dirname(os.path.dirname(os.path.abspath(__file__)))
+sys.path.append(os.path.join(ROOT, "bindings", "python"))  # a package that is installed comes before the repository's
+import fermion  # noqa: E402
+
+SAME = 1e-10  # hartree: two lines for one integral agree up to this; what symmetry makes zero is not above it
+NUMBER = re.compile(r"[+-]?(\d+\.?\d*|\.\d+)([ED][+-]?\d+)?", re.ASCII | re.IGNORECASE)
+INDEX = re.compile(r"\d+", re.ASCII)
+
+Pair = Tuple[int, int]
+
+
+class Integrals(NamedTuple):
+    """What an FCIDUMP holds. Orbitals count from 0; one[p, q] has p >= q, two[(p, q), (r, s)] has p >= q, r >= s, pq >= rs."""
+
+    orbitals: int
+    electrons: int
+    twice_spin: int  # electrons with spin up less those with spin down
+    symmetry: Tuple[int, ...]  # of each orbital, 1 to 8
+    core: float
+    one: Dict[Pair, float]
+    two: Dict[Tuple[Pair, Pair], float]
+
+    @property
+    def modes(self):
+        return 2 * self.orbitals
+
+    def scaled(self, scale):
+        """The integrals in units of 1/scale hartree, rounded to whole numbers. Each spatial integral is rounded once, so that
+        equal ones stay equal, and spin symmetry stays exact."""
+        whole = [{key: round(value * scale) for key, value in part.items()} for part in (self.one, self.two)]
+        return self._replace(core=round(self.core * scale), one=whole[0], two=whole[1])
+
+
+# Reading
+
+
+def read(path):
+    """The integrals of a file. What is not a sound FCIDUMP is a ValueError that names the file and the line."""
+    with open(path, encoding="ascii", errors="replace") as file:
+        lines = file.read().splitlines()
+    try:
+        return parse(lines)
+    except ValueError as error:
+        raise ValueError(f"{path}, {error}") from None
+
+
+def parse(lines):
+    """The integrals of a file's lines."""
+    entries, number = header(lines)
+    orbitals, electrons, twice_spin, symmetry = checked(entries, number)
+    seen = {}  # what stood on an earlier line: a key's value and line
+    for number, line in enumerate(lines[number:], number + 1):
+        if not line.strip():
+            continue
+        value, indices = entry(line, number, orbitals)
+        key = kind(indices, number)
+        former, at = seen.setdefault(key, (value, number))
+        if abs(value - former) > SAME:
+            raise ValueError(f"line {number}: {value} contradicts line {at}, where the same integral is {former}")
+        if abs(value) > SAME and not symmetric(indices, symmetry):
+            raise ValueError(f"line {number}: by ORBSYM this integral is zero, not {value}")
+    if () not in seen:
+        raise ValueError(f"line {len(lines)}: the file ends without the energy of the nuclei, the line with indices 0 0 0 0")
+    values = {key: value for key, (value, _) in seen.items() if value}
+    parts = ({key: value for key, value in values.items() if key and is_pair == isinstance(key[0], tuple) and key[-1] != "energy"}
+             for is_pair in (False, True))
+    return Integrals(orbitals, electrons, twice_spin, symmetry, values.get((), 0.0), *parts)
+
+
+def header(lines):
+    """The header's entries, name: (texts, line number), and the number of its last line."""
+    if not lines or not re.match(r"\s*[&$]FCI\b", lines[0], re.IGNORECASE):
+        raise ValueError("line 1: an FCIDUMP begins with &FCI")
+    entries, name = {}, ""
+    for number, line in enumerate(lines, 1):
+        text = re.sub(r"^\s*[&$]FCI\b", "", line, flags=re.IGNORECASE) if number == 1 else line
+        text, *end = re.split(r"[&$]END\b|/", text, maxsplit=1, flags=re.IGNORECASE)
+        for token in re.sub(r"\s*=\s*", "= ", text).replace(",", " ").split():
+            if token.endswith("="):
+                name = token[:-1].upper()
+                entries[name] = ([], number)
+            elif not name:
+                raise ValueError(f"line {number}: {token!r} stands in the header without a name")
+            else:
+                entries[name][0].append(token)
+        if end:
+            return entries, number
+    raise ValueError(f"line {len(lines)}: the header has no end, &END or /")
+
+
+def checked(entries, last):
+    """NORB, NELEC, MS2 and ORBSYM, if they fit together."""
+    def whole(name, default=None):
+        if name not in entries and default is None:
+            raise ValueError(f"line {last}: the header has no {name}")
+        texts, number = entries.get(name, ([str(default)], last))
+        if not texts or not all(re.fullmatch(r"[+-]?\d+", text, re.ASCII) for text in texts):
+            raise ValueError(f"line {number}: {name} is {' '.join(texts) or 'empty'}, not a whole number")
+        return [int(text) for text in texts], number
+
+    (orbitals, *_), number = whole("NORB")
+    if orbitals < 1:
+        raise ValueError(f"line {number}: NORB is {orbitals}")
+    (electrons, *_), number = whole("NELEC")
+    (twice_spin, *_), _ = whole("MS2", 0)
+    if (electrons + twice_spin) % 2 or not 0 <= electrons - abs(twice_spin) <= electrons + abs(twice_spin) <= 2 * orbitals:
+        raise ValueError(f"line {number}: NELEC {electrons} and MS2 {twice_spin} do not fit into {orbitals} orbitals")
+    symmetry, number = whole("ORBSYM", " ".join("1" * orbitals)) if "ORBSYM" in entries else ([1] * orbitals, last)
+    if len(symmetry) != orbitals or not all(1 <= label <= 8 for label in symmetry):
+        raise ValueError(f"line {number}: ORBSYM has to be {orbitals} numbers from 1 to 8")
+    whole("ISYM", 1)
+    for name in ("UHF", "IUHF"):
+        texts, number = entries.get(name, (["0"], last))
+        if texts[:1] not in (["0"], [".FALSE."], ["F"], [".F."]):
+            raise ValueError(f"line {number}: {name} says that up and down have orbitals of their own, which is not read here")
+    return orbitals, electrons, twice_spin, tuple(symmetry)
+
+
+def entry(line, number, orbitals):
+    """The value and the four indices of a line."""
+    fields = line.split()
+    if len(fields) != 5:
+        raise ValueError(f"line {number}: {len(fields)} fields where a value and four indices are expected")
+    if not NUMBER.fullmatch(fields[0]) or not math.isfinite(float(re.sub("[dD]", "E", fields[0]))):
+        raise ValueError(f"line {number}: {fields[0]!r} is not a number")
+    for field in fields[1:]:
+        if not INDEX.fullmatch(field) or int(field) > orbitals:
+            raise ValueError(f"line {number}: the index {field!r} is not one of 0 to {orbitals}")
+    return float(re.sub("[dD]", "E", fields[0])), tuple(int(field) for field in fields[1:])
+
+
+def kind(indices, number):
+    """The key of an integral: () for the nuclei, (p, q) for one electron, ((p, q), (r, s)) for two."""
+    p, q, r, s = (index - 1 for index in indices)
+    used = tuple(index > 0 for index in indices)
+    if used == (False,) * 4:
+        return ()
+    if used == (True, False, False, False):
+        return (p, "energy")
+    if used == (True, True, False, False):
+        return (max(p, q), min(p, q))
+    if used == (True,) * 4:
+        return tuple(sorted(((max(p, q), min(p, q)), (max(r, s), min(r, s))), reverse=True))
+    raise ValueError(f"line {number}: the indices {' '.join(map(str, indices))} belong to no integral")
+
+
+def symmetric(indices, symmetry):
+    """Whether the product of the orbitals' symmetries is the one that changes nothing: labels less 1 multiply as bits."""
+    product = 0
+    for index in indices:
+        product ^= symmetry[index - 1] - 1 if index else 0
+    return product == 0 or indices[1] == 0
+
+
+# The Hamiltonian
+
+
+def orders(key):
+    """The different (p, q, r, s) that one (pq|rs) stands for, or (p, q) for one h_pq."""
+    def turned(pair):
+        return {pair, pair[::-1]}
+    if not isinstance(key[0], tuple):
+        return sorted(turned(key))
+    return sorted({left + right for one, two in (key, key[::-1]) for left in turned(one) for right in turned(two)})
+
+
+def ladders(integrals):
+    """The Hamiltonian as products of ladders, (mode, 1) a creation and (mode, 0) an annihilation, with their coefficients.
+
+    It is the sum of h_pq a+p aq, and half the sum of (pq|rs) a+p a+r as aq, over orbitals and over the spins of p, q and of r, s.
+    Exchanging the two electrons, pq and rs, gives the same product again, so that the half is taken by creating p below r only.
+    """
+    yield (), integrals.core
+    for key, value in integrals.one.items():
+        for p, q in orders(key):
+            for spin in (0, 1):
+                yield ((2 * p + spin, 1), (2 * q + spin, 0)), value
+    for key, value in integrals.two.items():
+        for p, q, r, s in orders(key):
+            for one, two in ((0, 0), (0, 1), (1, 0), (1, 1)):
+                if 2 * p + one < 2 * r + two:
+                    yield ((2 * p + one, 1), (2 * r + two, 1), (2 * s + two, 0), (2 * q + one, 0)), value
+
+
+def float_hamiltonian(integrals):
+    """The Hamiltonian with float coefficients, in hartree."""
+    return fermion.FloatTerms.from_ladders(integrals.modes, ladders(integrals))
+
+
+def hamiltonian(integrals, scale):
+    """The Hamiltonian as a record, in units of 1/scale hartree."""
+    return fermion.Record.from_ladders(integrals.modes, ladders(integrals.scaled(scale)))
+
+
+def twice_sz(modes):
+    """2 Sz: the electrons with spin up less those with spin down."""
+    return fermion.number(modes, *range(0, modes, 2)) - fermion.number(modes, *range(1, modes, 2))
+
+
+def four_s2(modes):
+    """4 S^2 = (2 Sz)^2 + 2 (S+ S- + S- S+), which has whole coefficients."""
+    raising = fermion.Record.from_ladders(modes, {((p, 1), (p + 1, 0)): 1 for p in range(0, modes, 2)})
+    return twice_sz(modes) ** 2 + 2 * raising.anticommutator(raising.adjoint())
+
+
+def count(integrals, scale):
+    """The terms of the Hamiltonian, like ones joined, however many: also of one that is too long for a record."""
+    sums = Counter()
+    for product, value in ladders(integrals.scaled(scale)):
+        for cre, ann, coeff in fermion.Record.ladders(integrals.modes, product, value):
+            sums[cre, ann] += coeff
+    return sum(coeff != 0 for coeff in sums.values())
+
+
+def largest_scale(record, scale, other):
+    """The largest scale at which the Hamiltonian, here with a smaller one, may be multiplied by the other record: 8 says no
+    above it. The roundings of the integrals make it uncertain in the last digits."""
+    return scale * fermion.MAX_WEIGHT / (record.weight * other.weight)
+
+
+# The program
+
+
+def library():
+    """Loads the library, or ends the program with a sentence."""
+    try:
+        fermion.load()
+    except OSError as error:
+        needs = "" if shutil.which("rt") else "; tools/shared_object.sh needs the program rt, which is not on the PATH"
+        stop(f"{error}{needs}")
+
+
+def stop(sentence):
+    print(sentence, file=sys.stderr)
+    sys.exit(2)
+
+
+def shipped():
+    return sorted(glob.glob(os.path.join(ROOT, "examples", "molecules", "*.fcidump")))
+
+
+def main():
+    library()
+    for path in sys.argv[1:] or shipped():
+        try:
+            integrals = read(path)
+            scale = 10**9
+            record = hamiltonian(integrals, scale)
+        except (OSError, ValueError, fermion.Refusal) as error:
+            stop(f"{path}: {error}" if isinstance(error, fermion.Refusal) else str(error))
+        print(f"{os.path.basename(path)}: {integrals.orbitals} orbitals, {integrals.electrons} electrons, "
+              f"{len(integrals.one)} + {len(integrals.two)} integrals")
+        print(f"  {len(record)} terms on {record.modes} modes, weight {record.weight / scale:.6f} hartree; "
+              f"largest scale for [H, 4 S2]: {largest_scale(record, scale, four_s2(record.modes)):.3g}")
+    return 0
+
+
+if __name__ == "__main__":
+    sys.exit(main())
