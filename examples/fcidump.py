@@ -23,7 +23,10 @@ from typing import Dict, NamedTuple, Tuple
 
 ROOT = os.path.dirname(os.path.dirname(os.path.abspath(__file__)))
 sys.path.append(os.path.join(ROOT, "bindings", "python"))  # a package that is installed comes before the repository's
-import fermion  # noqa: E402
+try:
+    import fermion
+except ImportError as error:
+    sys.exit(f"{error}: the package is bindings/python/fermion of the repository; pip install bindings/python installs it")
 
 SAME = 1e-10  # hartree: two lines for one integral agree up to this; what symmetry makes zero is not above it
 NUMBER = re.compile(r"[+-]?(\d+\.?\d*|\.\d+)([ED][+-]?\d+)?", re.ASCII | re.IGNORECASE)
@@ -69,25 +72,23 @@ def read(path):
 
 def parse(lines):
     """The integrals of a file's lines."""
-    entries, number = header(lines)
-    orbitals, electrons, twice_spin, symmetry = checked(entries, number)
-    seen = {}  # what stood on an earlier line: a key's value and line
-    for number, line in enumerate(lines[number:], number + 1):
+    entries, last = header(lines)
+    orbitals, electrons, twice_spin, symmetry = checked(entries, last)
+    seen = {"core": {}, "energy": {}, "one": {}, "two": {}}  # of each integral, its value and its line
+    for number, line in enumerate(lines[last:], last + 1):
         if not line.strip():
             continue
         value, indices = entry(line, number, orbitals)
-        key = kind(indices, number)
-        former, at = seen.setdefault(key, (value, number))
+        name, key = kind(indices, number)
+        former, at = seen[name].setdefault(key, (value, number))
         if abs(value - former) > SAME:
             raise ValueError(f"line {number}: {value} contradicts line {at}, where the same integral is {former}")
-        if abs(value) > SAME and not symmetric(indices, symmetry):
+        if name in ("one", "two") and abs(value) > SAME and not symmetric(indices, symmetry):
             raise ValueError(f"line {number}: by ORBSYM this integral is zero, not {value}")
-    if () not in seen:
-        raise ValueError(f"line {len(lines)}: the file ends without the energy of the nuclei, the line with indices 0 0 0 0")
-    values = {key: value for key, (value, _) in seen.items() if value}
-    parts = ({key: value for key, value in values.items() if key and is_pair == isinstance(key[0], tuple) and key[-1] != "energy"}
-             for is_pair in (False, True))
-    return Integrals(orbitals, electrons, twice_spin, symmetry, values.get((), 0.0), *parts)
+    if not seen["core"]:
+        raise ValueError(f"line {len(lines)}: the file ends without the energy of the nuclei, a line with the indices 0 0 0 0")
+    one, two = ({key: value for key, (value, _) in seen[name].items() if value} for name in ("one", "two"))
+    return Integrals(orbitals, electrons, twice_spin, symmetry, seen["core"][()][0], one, two)
 
 
 def header(lines):
@@ -97,53 +98,53 @@ def header(lines):
     entries, name = {}, ""
     for number, line in enumerate(lines, 1):
         text = re.sub(r"^\s*[&$]FCI\b", "", line, flags=re.IGNORECASE) if number == 1 else line
-        text, *end = re.split(r"[&$]END\b|/", text, maxsplit=1, flags=re.IGNORECASE)
+        text, *rest = re.split(r"[&$]END\b|/", text, maxsplit=1, flags=re.IGNORECASE)
         for token in re.sub(r"\s*=\s*", "= ", text).replace(",", " ").split():
-            if token.endswith("="):
-                name = token[:-1].upper()
-                entries[name] = ([], number)
-            elif not name:
+            if not token.endswith("=") and not name:
                 raise ValueError(f"line {number}: {token!r} stands in the header without a name")
-            else:
+            if not token.endswith("="):
                 entries[name][0].append(token)
-        if end:
+                continue
+            name = token[:-1].upper()
+            if name in entries:
+                raise ValueError(f"line {number}: {name} stands in the header twice")
+            entries[name] = ([], number)
+        if rest:
+            if rest[0].strip():
+                raise ValueError(f"line {number}: {rest[0].strip()!r} stands after the header's end")
             return entries, number
     raise ValueError(f"line {len(lines)}: the header has no end, &END or /")
 
 
 def checked(entries, last):
     """NORB, NELEC, MS2 and ORBSYM, if they fit together."""
-    def whole(name, default=None):
-        if name not in entries and default is None:
+    def whole(name, default):
+        if name not in entries and not default:
             raise ValueError(f"line {last}: the header has no {name}")
-        texts, number = entries.get(name, ([str(default)], last))
-        if not texts or not all(re.fullmatch(r"[+-]?\d+", text, re.ASCII) for text in texts):
-            raise ValueError(f"line {number}: {name} is {' '.join(texts) or 'empty'}, not a whole number")
-        return [int(text) for text in texts], number
+        texts, number = entries.get(name, (default, last))
+        if len(texts) != len(default or "1") or not all(re.fullmatch(r"[+-]?\d+", text, re.ASCII) for text in texts):
+            count = "a whole number" if len(default or "1") == 1 else f"{len(default)} whole numbers"
+            raise ValueError(f"line {number}: {name} is {','.join(texts) or 'empty'}, not {count}")
+        return [int(text) for text in texts]
 
-    (orbitals, *_), number = whole("NORB")
-    if orbitals < 1:
-        raise ValueError(f"line {number}: NORB is {orbitals}")
-    (electrons, *_), number = whole("NELEC")
-    (twice_spin, *_), _ = whole("MS2", 0)
-    if (electrons + twice_spin) % 2 or not 0 <= electrons - abs(twice_spin) <= electrons + abs(twice_spin) <= 2 * orbitals:
-        raise ValueError(f"line {number}: NELEC {electrons} and MS2 {twice_spin} do not fit into {orbitals} orbitals")
-    symmetry, number = whole("ORBSYM", " ".join("1" * orbitals)) if "ORBSYM" in entries else ([1] * orbitals, last)
-    if len(symmetry) != orbitals or not all(1 <= label <= 8 for label in symmetry):
-        raise ValueError(f"line {number}: ORBSYM has to be {orbitals} numbers from 1 to 8")
-    whole("ISYM", 1)
+    (orbitals,), (electrons,), (twice_spin,), _ = whole("NORB", ""), whole("NELEC", ""), whole("MS2", "0"), whole("ISYM", "1")
+    if not (electrons + twice_spin) % 2 == 0 <= electrons - abs(twice_spin) <= electrons + abs(twice_spin) <= 2 * orbitals > 0:
+        raise ValueError(f"line {last}: NELEC {electrons} and MS2 {twice_spin} do not fit into {orbitals} orbitals")
+    symmetry = tuple(whole("ORBSYM", "1" * orbitals))
+    if not all(1 <= label <= 8 for label in symmetry):
+        raise ValueError(f"line {entries['ORBSYM'][1]}: the labels of ORBSYM are 1 to 8")
     for name in ("UHF", "IUHF"):
         texts, number = entries.get(name, (["0"], last))
-        if texts[:1] not in (["0"], [".FALSE."], ["F"], [".F."]):
+        if [text.upper() for text in texts] not in (["0"], [".FALSE."], ["F"], [".F."]):
             raise ValueError(f"line {number}: {name} says that up and down have orbitals of their own, which is not read here")
-    return orbitals, electrons, twice_spin, tuple(symmetry)
+    return orbitals, electrons, twice_spin, symmetry
 
 
 def entry(line, number, orbitals):
     """The value and the four indices of a line."""
     fields = line.split()
     if len(fields) != 5:
-        raise ValueError(f"line {number}: {len(fields)} fields where a value and four indices are expected")
+        raise ValueError(f"line {number}: {len(fields)} fields, where a value and four indices are expected")
     if not NUMBER.fullmatch(fields[0]) or not math.isfinite(float(re.sub("[dD]", "E", fields[0]))):
         raise ValueError(f"line {number}: {fields[0]!r} is not a number")
     for field in fields[1:]:
@@ -153,26 +154,56 @@ def entry(line, number, orbitals):
 
 
 def kind(indices, number):
-    """The key of an integral: () for the nuclei, (p, q) for one electron, ((p, q), (r, s)) for two."""
+    """What a line is about, and the key of its integral."""
     p, q, r, s = (index - 1 for index in indices)
-    used = tuple(index > 0 for index in indices)
-    if used == (False,) * 4:
-        return ()
-    if used == (True, False, False, False):
-        return (p, "energy")
-    if used == (True, True, False, False):
-        return (max(p, q), min(p, q))
-    if used == (True,) * 4:
-        return tuple(sorted(((max(p, q), min(p, q)), (max(r, s), min(r, s))), reverse=True))
+    used = "".join("1" if index else "0" for index in indices)
+    if used == "0000":
+        return "core", ()
+    if used == "1000":
+        return "energy", p
+    if used == "1100":
+        return "one", pair(p, q)
+    if used == "1111":
+        return "two", pairs(p, q, r, s)
     raise ValueError(f"line {number}: the indices {' '.join(map(str, indices))} belong to no integral")
+
+
+def pair(p, q):
+    return (max(p, q), min(p, q))
+
+
+def pairs(p, q, r, s):
+    return (max(pair(p, q), pair(r, s)), min(pair(p, q), pair(r, s)))
 
 
 def symmetric(indices, symmetry):
     """Whether the product of the orbitals' symmetries is the one that changes nothing: labels less 1 multiply as bits."""
     product = 0
-    for index in indices:
-        product ^= symmetry[index - 1] - 1 if index else 0
-    return product == 0 or indices[1] == 0
+    for index in filter(None, indices):
+        product ^= symmetry[index - 1] - 1
+    return product == 0
+
+
+def active(integrals, frozen, kept):
+    """The integrals of an active space: the frozen orbitals doubly occupied, those neither frozen nor kept empty.
+
+    The kept orbitals are numbered anew, in the order given. What the frozen ones do to each other goes into the core energy, and
+    what they do to the others into h_pq.
+    """
+    def one(p, q):
+        return integrals.one.get(pair(p, q), 0)
+
+    def two(p, q, r, s):
+        return integrals.two.get(pairs(p, q, r, s), 0)
+
+    core = integrals.core + sum(2 * one(i, i) + sum(2 * two(i, i, j, j) - two(i, j, i, j) for j in frozen) for i in frozen)
+    new = [(p, q) for p in range(len(kept)) for q in range(p + 1)]
+    inner = {(p, q): one(kept[p], kept[q]) + sum(2 * two(kept[p], kept[q], i, i) - two(kept[p], i, kept[q], i) for i in frozen)
+             for p, q in new}
+    outer = {(pq, rs): two(*(kept[x] for x in pq + rs)) for pq in new for rs in new if pq >= rs}
+    return integrals._replace(
+        orbitals=len(kept), electrons=integrals.electrons - 2 * len(frozen), symmetry=tuple(integrals.symmetry[p] for p in kept),
+        core=core, one={key: value for key, value in inner.items() if value}, two={key: value for key, value in outer.items() if value})
 
 
 # The Hamiltonian

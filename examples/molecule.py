@@ -19,7 +19,7 @@ import fermion
 
 SCALE = 10**12  # the record's coefficients are in units of 1/SCALE hartree
 CLOSE = 1e-9  # hartree
-STRIPE = 16  # rows of the matrix that are asked for at once
+STRIPE = 64  # rows of the matrix that are asked for at once
 
 
 def say(text):
@@ -67,8 +67,8 @@ def dot(a, b):
 def lowest_eigenvalue(rows, close=1e-8):
     """Of a symmetric matrix, its rows lists of (column, value), by Davidson's method.
 
-    The residual's length is at most `close` at the end, the error of the value about its square. Two of the starting vector's
-    components are never equal, so that no symmetry hides the lowest state.
+    The residual's length is at most `close` at the end, the error of the value about its square. The starting vector has something
+    of every determinant, no two alike, so that the lowest state is found whatever its symmetry.
     """
     diagonal = [dict(row).get(i, 0.0) for i, row in enumerate(rows)]
     lowest = min(range(len(rows)), key=diagonal.__getitem__)
