@@ -26,9 +26,11 @@ sys.path.append(os.path.join(ROOT, "bindings", "python"))  # a package that is i
 try:
     import fermion
 except ImportError as error:
-    sys.exit(f"{error}: the package is bindings/python/fermion of the repository; pip install bindings/python installs it")
+    print(f"{error}: the package is bindings/python of the repository, which pip can install too", file=sys.stderr)
+    sys.exit(2)
 
 SAME = 1e-10  # hartree: two lines for one integral agree up to this; what symmetry makes zero is not above it
+MOST_ORBITALS = 9999
 NUMBER = re.compile(r"[+-]?(\d+\.?\d*|\.\d+)([ED][+-]?\d+)?", re.ASCII | re.IGNORECASE)
 INDEX = re.compile(r"\d+", re.ASCII)
 
@@ -87,7 +89,7 @@ def parse(lines):
             raise ValueError(f"line {number}: by ORBSYM this integral is zero, not {value}")
     if not seen["core"]:
         raise ValueError(f"line {len(lines)}: the file ends without the energy of the nuclei, a line with the indices 0 0 0 0")
-    one, two = ({key: value for key, (value, _) in seen[name].items() if value} for name in ("one", "two"))
+    one, two = (without_zeros({key: value for key, (value, _) in seen[name].items()}) for name in ("one", "two"))
     return Integrals(orbitals, electrons, twice_spin, symmetry, seen["core"][()][0], one, two)
 
 
@@ -128,7 +130,9 @@ def checked(entries, last):
         return [int(text) for text in texts]
 
     (orbitals,), (electrons,), (twice_spin,), _ = whole("NORB", ""), whole("NELEC", ""), whole("MS2", "0"), whole("ISYM", "1")
-    if not (electrons + twice_spin) % 2 == 0 <= electrons - abs(twice_spin) <= electrons + abs(twice_spin) <= 2 * orbitals > 0:
+    if not 1 <= orbitals <= MOST_ORBITALS:
+        raise ValueError(f"line {entries['NORB'][1]}: NORB is {orbitals}, not 1 to {MOST_ORBITALS}")
+    if not (electrons + twice_spin) % 2 == 0 <= electrons - abs(twice_spin) <= electrons + abs(twice_spin) <= 2 * orbitals:
         raise ValueError(f"line {last}: NELEC {electrons} and MS2 {twice_spin} do not fit into {orbitals} orbitals")
     symmetry = tuple(whole("ORBSYM", "1" * orbitals))
     if not all(1 <= label <= 8 for label in symmetry):
@@ -144,7 +148,7 @@ def entry(line, number, orbitals):
     """The value and the four indices of a line."""
     fields = line.split()
     if len(fields) != 5:
-        raise ValueError(f"line {number}: {len(fields)} fields, where a value and four indices are expected")
+        raise ValueError(f"line {number}: a value and four indices are expected, not {len(fields)} field{'s' * (len(fields) != 1)}")
     if not NUMBER.fullmatch(fields[0]) or not math.isfinite(float(re.sub("[dD]", "E", fields[0]))):
         raise ValueError(f"line {number}: {fields[0]!r} is not a number")
     for field in fields[1:]:
@@ -202,8 +206,12 @@ def active(integrals, frozen, kept):
              for p, q in new}
     outer = {(pq, rs): two(*(kept[x] for x in pq + rs)) for pq in new for rs in new if pq >= rs}
     return integrals._replace(
-        orbitals=len(kept), electrons=integrals.electrons - 2 * len(frozen), symmetry=tuple(integrals.symmetry[p] for p in kept),
-        core=core, one={key: value for key, value in inner.items() if value}, two={key: value for key, value in outer.items() if value})
+        orbitals=len(kept), electrons=integrals.electrons - 2 * len(frozen),
+        symmetry=tuple(integrals.symmetry[p] for p in kept), core=core, one=without_zeros(inner), two=without_zeros(outer))
+
+
+def without_zeros(values):
+    return {key: value for key, value in values.items() if value}
 
 
 # The Hamiltonian
@@ -289,23 +297,38 @@ def stop(sentence):
     sys.exit(2)
 
 
+def in_words(path, error):
+    """What is wrong with a file, as a sentence that names it."""
+    if isinstance(error, fermion.Refusal):
+        return f"{path}: its Hamiltonian is {error}"
+    return f"{path}: {error.strerror}" if isinstance(error, OSError) else str(error)
+
+
 def shipped():
     return sorted(glob.glob(os.path.join(ROOT, "examples", "molecules", "*.fcidump")))
+
+
+def show(path, scale=10**9):
+    """What a file holds, and how its Hamiltonian fits into a record."""
+    integrals = read(path)
+    print(f"{os.path.basename(path)}: {integrals.orbitals} orbitals, {integrals.electrons} electrons, "
+          f"{len(integrals.one)} + {len(integrals.two)} integrals")
+    terms = count(integrals, scale)
+    if terms > fermion.MAX_TERMS:
+        print(f"  {terms} terms on {integrals.modes} modes: more than the {fermion.MAX_TERMS} of a record")
+        return
+    record, spin = hamiltonian(integrals, scale), four_s2(integrals.modes)
+    print(f"  {terms} terms on {integrals.modes} modes, weight {record.weight / scale:.6f} hartree; "
+          f"scales up to {largest_scale(record, scale, spin):.3g} for [H, 4 S2]")
 
 
 def main():
     library()
     for path in sys.argv[1:] or shipped():
         try:
-            integrals = read(path)
-            scale = 10**9
-            record = hamiltonian(integrals, scale)
+            show(path)
         except (OSError, ValueError, fermion.Refusal) as error:
-            stop(f"{path}: {error}" if isinstance(error, fermion.Refusal) else str(error))
-        print(f"{os.path.basename(path)}: {integrals.orbitals} orbitals, {integrals.electrons} electrons, "
-              f"{len(integrals.one)} + {len(integrals.two)} integrals")
-        print(f"  {len(record)} terms on {record.modes} modes, weight {record.weight / scale:.6f} hartree; "
-              f"largest scale for [H, 4 S2]: {largest_scale(record, scale, four_s2(record.modes)):.3g}")
+            stop(in_words(path, error))
     return 0
 
 

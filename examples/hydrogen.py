@@ -6,7 +6,8 @@ A. Aspuru-Guzik, Molecular Physics 109 (2011) 735, in millionths of a hartree; t
 Modern Quantum Chemistry, section 3.5.2, at 1.4 bohr agree with them to three digits.
 
 The library tells that the record is Hermitian and conserves the number of particles, which is that its commutator with the
-number operator has no terms, and gives its exact matrix on the six words with two electrons. The lowest eigenvalue of that matrix and the repulsion of the nuclei are the energy.
+number operator has no terms, and gives its exact matrix on the six words with two electrons. The lowest eigenvalue of that
+matrix and the repulsion of the nuclei are the energy. molecule.py does the same with larger molecules, from files.
 """
 import itertools
 import sys

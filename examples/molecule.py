@@ -14,7 +14,7 @@ import os
 import sys
 import time
 
-from fcidump import float_hamiltonian, four_s2, hamiltonian, library, read, shipped, stop, twice_sz
+from fcidump import float_hamiltonian, four_s2, hamiltonian, in_words, library, read, shipped, stop, twice_sz
 import fermion
 
 SCALE = 10**12  # the record's coefficients are in units of 1/SCALE hartree
@@ -138,8 +138,8 @@ def exact(integrals):
     """Prints what the library tells of the record; whether it is all as it must be."""
     record = hamiltonian(integrals, SCALE)
     hermitian, commutators = record.is_hermitian(), commuting(record)
-    print(f"  as a record: {len(record)} terms on {record.modes} modes in units of {1 / SCALE:.0e} hartree; Hermitian: {hermitian}; "
-          f"at most {record.max_n_body()} electrons at a time")
+    print(f"  as a record: {len(record)} terms on {record.modes} modes in units of {1 / SCALE:.0e} hartree; "
+          f"Hermitian: {hermitian}; at most {record.max_n_body()} electrons at a time")
     print("  exactly: " + ", ".join(f"[H, {name}] has {terms or 'no'} terms" for name, terms in commutators.items()), flush=True)
     return hermitian and not any(commutators.values())
 
@@ -169,10 +169,8 @@ def main():
     for path in sys.argv[1:] or shipped():
         try:
             right &= run(path)
-        except (OSError, ValueError) as error:
-            stop(str(error))
-        except fermion.Refusal as refusal:
-            stop(f"{path}: {refusal}")
+        except (OSError, ValueError, fermion.Refusal) as error:
+            stop(in_words(path, error))
     say(f"{time.monotonic() - started:.1f} s")
     return 0 if right else 1
 
