@@ -1,0 +1,203 @@
+#!/usr/bin/env python3
+"""The molecules of examples/ and docs/CHEMISTRY.md: their Hamiltonians, element by element, beside the sums over orbitals and spins
+as a textbook writes them, worked out ladder by ladder with rule.py from integrals that this file reads by itself; matrices by hand;
+an active space beside Psi4's energy; the scales and the refusals that the page names."""
+import itertools
+import os
+import random
+import sys
+
+import face
+import rule
+
+sys.path[:0] = [os.path.join(face.ROOT, "bindings", "python"), os.path.join(face.ROOT, "examples")]
+import fcidump  # noqa: E402
+import fermion  # noqa: E402
+import molecule  # noqa: E402
+
+SEED = 20261207
+MOLECULES = os.path.join(face.ROOT, "examples", "molecules")
+SCALE = 10**12
+FROZEN_LIH = -7.882175990788  # Psi4 1.3.2: full CI with the orbital 1s of lithium frozen, hartree
+# What docs/CHEMISTRY.md says: terms, weight in hartree, weight of 4 S2, largest power of ten for [H, 4 S2] and [H, N].
+PAGE = {"lih": (631, 54.748808, 312, 13, 15), "h2o": (1086, 288.040918, 420, 12, 14)}
+H2 = """ &FCI NORB=  2,NELEC= 2,MS2=0,
+  ORBSYM=1,5,
+  ISYM=1
+ /
+ 0.674493D+00 1 1 1 1
+ 6.63472E-1 2 2 1 1
+
+ .181287 2 1 2 1
+ 0.697397 2 2 2 2
+ -1.252477 1 1 0 0
+ -0.475934 2 2 0 0
+ -0.5 1 0 0 0
+ 0.25 0 0 0 0
+"""
+
+
+def path(name):
+    return os.path.join(MOLECULES, f"{name}.fcidump")
+
+
+def table(name):
+    """The integrals of a file in units of 1/SCALE hartree, each of the eight orders by itself: h[p, q], g[p, q, r, s], core."""
+    h, g, core = {}, {}, 0
+    with open(path(name), encoding="ascii") as file:
+        lines = file.read().split("&END\n")[1].splitlines()
+    for line in reversed(lines):  # what stands first in the file counts
+        value, *indices = line.split()
+        i, j, k, l = (int(index) - 1 for index in indices)
+        whole = round(float(value) * SCALE)
+        if k >= 0:
+            for p, q, r, s in ((i, j, k, l), (j, i, k, l), (i, j, l, k), (j, i, l, k)):
+                g[p, q, r, s] = g[r, s, p, q] = whole
+        elif i >= 0:
+            h[i, j] = h[j, i] = whole
+        else:
+            core = whole
+    return h, g, core
+
+
+def applied(ladders, ket):
+    """A product of ladders (mode, creates) on a ket, the rightmost first: the new word and the sign, or None."""
+    word, sign = ket, 1
+    for mode, creates in reversed(ladders):
+        step = rule.ladder(creates, mode, word)
+        if step is None:
+            return None
+        word, sign = step[0], sign * step[1]
+    return word, sign
+
+
+def twice_column(h, g, core, ket):
+    """Twice the Hamiltonian on a ket: 2 core + 2 sum h_pq a+p aq + sum (pq|rs) a+p a+r as aq, by bra, zeros dropped."""
+    column = {ket: 2 * core}
+
+    def add(ladders, value):
+        reached = applied(ladders, ket)
+        if reached:
+            column[reached[0]] = column.get(reached[0], 0) + reached[1] * value
+
+    for (p, q), value in h.items():
+        for spin in (0, 1):
+            add(((2 * p + spin, 1), (2 * q + spin, 0)), 2 * value)
+    for (p, q, r, s), value in g.items():
+        for one, two in itertools.product((0, 1), repeat=2):
+            add(((2 * p + one, 1), (2 * r + two, 1), (2 * s + two, 0), (2 * q + one, 0)), value)
+    return {bra: value for bra, value in column.items() if value}
+
+
+def check_elements(tally, name, kets):
+    """Columns of the Hamiltonian, over all determinants and some words with other numbers of electrons."""
+    integrals, rng = fcidump.read(path(name)), random.Random(SEED)
+    record, floats = fcidump.hamiltonian(integrals, SCALE), fcidump.float_hamiltonian(integrals)
+    words = molecule.determinants(integrals)
+    others = [rng.randrange(1 << integrals.modes) for _ in range(20)]
+    values = table(name)
+    for ket in rng.sample(words, kets) + [0] + others[:3]:
+        expected = twice_column(*values, ket)
+        for bra in set(words) | set(expected) | set(others):
+            exact = record.element(bra, ket)
+            tally.same(f"{name}: exact elements, twice", 2 * exact, expected.get(bra, 0), (bra, ket))
+            near = abs(floats.element(bra, ket) - exact / SCALE) < 1e-9
+            tally.same(f"{name}: float elements beside them", near, True, (bra, ket))
+
+
+def check_page(tally, name):
+    """The figures of the page: terms, weights, and the scales at which 8 begins."""
+    integrals = fcidump.read(path(name))
+    terms, weight, spin_weight, for_spin, for_number = PAGE[name]
+    record, spin = fcidump.hamiltonian(integrals, SCALE), fcidump.four_s2(integrals.modes)
+    tally.same(f"{name}: terms", (len(record), fcidump.count(integrals, SCALE)), (terms, terms), name)
+    tally.same(f"{name}: weights", (round(record.weight / SCALE, 6), spin.weight), (weight, spin_weight), name)
+    for other, power in ((spin, for_spin), (fermion.number(integrals.modes), for_number)):
+        for scale, refused in ((10**power, 0), (10**(power + 1), 8)):
+            tally.same(f"{name}: where 8 begins", number_of(fcidump.hamiltonian(integrals, scale).commutator, other), refused, scale)
+    small = fcidump.hamiltonian(integrals, 10**6)
+    tally.same(f"{name}: H times H has too many terms", number_of(fermion.mul, small, small, ceiling=1 << 28), 10, name)
+
+
+def number_of(function, *args, **named):
+    """The number of the refusal that a call gives, 0 for none."""
+    try:
+        function(*args, **named)
+    except fermion.Refusal as refusal:
+        return refusal.number
+    return 0
+
+
+def check_hydrogen(tally):
+    """A file in another hand, and the matrix of molecular hydrogen by hand: J = (00|11), K = (01|01)."""
+    integrals = fcidump.parse(H2.splitlines())
+    tally.same("H2: what is read", integrals, fcidump.Integrals(
+        2, 2, 0, (1, 5), 0.25, {(0, 0): -1.252477, (1, 1): -0.475934},
+        {((0, 0), (0, 0)): 0.674493, ((1, 1), (0, 0)): 0.663472, ((1, 0), (1, 0)): 0.181287, ((1, 1), (1, 1)): 0.697397}), "H2")
+    record = fcidump.hamiltonian(integrals, 10**6)
+    both, mixed, repulsion, exchange = 2 * -1252477 + 674493, -1252477 - 475934, 663472, 181287
+    elements = {(3, 3): both, (12, 12): 2 * -475934 + 697397, (3, 12): exchange, (5, 5): mixed + repulsion - exchange,
+                (6, 6): mixed + repulsion, (6, 9): -exchange, (3, 5): 0, (0, 0): 0, (1, 1): -1252477}
+    for (bra, ket), value in elements.items():
+        tally.same("H2: elements by hand", record.element(bra, ket), value + 250000 * (bra == ket), (bra, ket))
+
+
+def check_order(tally):
+    """The order of ladders in a term, beside the descending one: docs/CHEMISTRY.md, `Conventions`."""
+    def made(*ladders):
+        return [tuple(term) for term in fermion.Record.ladders(2, ladders)]
+
+    up, down = ((0, 1), (1, 1)), ((1, 1), (0, 1))
+    tally.same("a+0 a+1 a0 a1", made(*up, (0, 0), (1, 0)), [(3, 3, 1)], "ascending")
+    tally.same("a+1 a+0 a1 a0", made(*down, (1, 0), (0, 0)), [(3, 3, 1)], "descending")
+    tally.same("a+0 a+1 a1 a0", made(*up, (1, 0), (0, 0)), [(3, 3, -1)], "n0 n1")
+    tally.same("a+1 a+0", made(*down), [(3, 0, -1)], "a pair")
+    term = fermion.Record.build(2, [(3, 3, 1)])
+    tally.same("{0,1|0,1} is - n0 n1", [term.element(word, word) for word in range(4)], [0, 0, 0, -1], "its elements")
+    tally.same("interaction", fermion.interaction(2, 0, 1), fermion.Record.build(2, [(3, 3, -1)]), "n0 n1")
+
+
+def check_active(tally):
+    """An active space: the energy with frozen 1s by Psi4; and nothing frozen, all kept, is the molecule itself."""
+    integrals = fcidump.read(path("lih"))
+    tally.same("LiH, all orbitals kept", fcidump.active(integrals, [], range(6)), integrals, "active")
+    frozen = fcidump.active(integrals, [0], range(1, 6))
+    words = molecule.determinants(frozen)
+    rows = [list(enumerate(row)) for row in fcidump.float_hamiltonian(frozen).matrix(words, words)]
+    energy = molecule.lowest_eigenvalue(rows)
+    tally.same("LiH, 1s frozen", (len(words), frozen.electrons, abs(energy - FROZEN_LIH) < 1e-9), (25, 2, True), energy)
+
+
+def check_counts(tally):
+    """Without any symmetry n orbitals have 1 + 2 n^2 + n^4 + 2 (n over 2)^2 terms: for n = 3 these are 118."""
+    rng = random.Random(SEED)
+    pairs = [(p, q) for p in range(3) for q in range(p + 1)]
+    one = {pair: rng.uniform(1, 2) for pair in pairs}
+    two = {(left, right): rng.uniform(1, 2) for left in pairs for right in pairs if left >= right}
+    integrals = fcidump.Integrals(3, 2, 0, (1, 1, 1), 1.0, one, two)
+    tally.same("terms without symmetry", fcidump.count(integrals, 10**9), 118, "3 orbitals")
+    tally.same("4 S2 of one orbital", [tuple(term) for term in fcidump.four_s2(2)], [(1, 1, 3), (2, 2, 3), (3, 3, 6)], "4 S2")
+
+
+def check_eigenvalues(tally):
+    """Matrices whose lowest eigenvalue is known: 2 - 2 cos(pi / (n + 1)) of a chain, and blocks that do not touch."""
+    chain = [[(j, 2.0 if i == j else -1.0) for j in (i - 1, i, i + 1) if 0 <= j < 40] for i in range(40)]
+    tally.same("a chain of 40", abs(molecule.lowest_eigenvalue(chain) - 0.005868) < 1e-6, True, molecule.lowest_eigenvalue(chain))
+    blocks = [[(0, 0.0)], [(1, 1.0), (2, 2.0)], [(1, 2.0), (2, 1.0)]]  # 0, and 1 - 2 and 1 + 2
+    tally.same("a block beside the lowest element", round(molecule.lowest_eigenvalue(blocks), 9), -1.0, "blocks")
+
+
+def main():
+    tally = face.Tally()
+    check_hydrogen(tally)
+    check_order(tally)
+    check_counts(tally)
+    check_eigenvalues(tally)
+    check_active(tally)
+    for name, kets in (("lih", 16), ("h2o", 8)):
+        check_elements(tally, name, kets)
+        check_page(tally, name)
+    tally.close()
+
+
+main()
