@@ -1,7 +1,8 @@
 #!/usr/bin/env python3
 """The molecules of examples/ and docs/CHEMISTRY.md: their Hamiltonians, element by element, beside the sums over orbitals and spins
-as a textbook writes them, worked out ladder by ladder with rule.py from integrals that this file reads by itself; matrices by hand;
-an active space beside Psi4's energy; the scales and the refusals that the page names."""
+as a textbook writes them, worked out ladder by ladder with rule.py from integrals that this file reads by itself; matrices by
+hand; an active space beside Psi4's energy; the page's examples, and the scales and refusals that it names."""
+import doctest
 import itertools
 import os
 import random
@@ -187,8 +188,17 @@ def check_eigenvalues(tally):
     tally.same("a block beside the lowest element", round(molecule.lowest_eigenvalue(blocks), 9), -1.0, "blocks")
 
 
+def check_examples_of_the_page(tally):
+    """What docs/CHEMISTRY.md shows in Python is what Python answers."""
+    os.chdir(face.ROOT)
+    failed, tried = doctest.testfile(os.path.join(face.ROOT, "docs", "CHEMISTRY.md"), module_relative=False,
+                                     optionflags=doctest.ELLIPSIS)
+    tally.same("docs/CHEMISTRY.md in Python", (failed, tried > 15), (0, True), f"{tried} lines")
+
+
 def main():
     tally = face.Tally()
+    check_examples_of_the_page(tally)
     check_hydrogen(tally)
     check_order(tally)
     check_counts(tally)
