@@ -301,7 +301,9 @@ def in_words(path, error):
     """What is wrong with a file, as a sentence that names it."""
     if isinstance(error, fermion.Refusal):
         return f"{path}: its Hamiltonian is {error}"
-    return f"{path}: {error.strerror}" if isinstance(error, OSError) else str(error)
+    if isinstance(error, OSError):
+        return f"{path}: {error.strerror}"
+    return str(error) if isinstance(error, ValueError) else f"{path}: {error}"
 
 
 def shipped():

@@ -19,6 +19,7 @@ import fermion
 
 SCALE = 10**12  # the record's coefficients are in units of 1/SCALE hartree
 CLOSE = 1e-9  # hartree
+MOST_STEPS = 100  # of Davidson's method; LiH and H2O take about 20
 STRIPE = 64  # rows of the matrix that are asked for at once
 
 
@@ -84,6 +85,8 @@ def lowest_eigenvalue(rows, close=1e-8):
         fresh = apart([r / (value - d) if abs(value - d) > 1e-4 else r for r, d in zip(residual, diagonal)], basis)
         if dot(residual, residual) <= close**2 or len(basis) == len(rows) or not any(fresh):
             return value
+        if len(basis) == MOST_STEPS:
+            raise ArithmeticError(f"no lowest eigenvalue was found in {MOST_STEPS} steps")
 
 
 def apart(vector, basis):
@@ -169,7 +172,7 @@ def main():
     for path in sys.argv[1:] or shipped():
         try:
             right &= run(path)
-        except (OSError, ValueError, fermion.Refusal) as error:
+        except (OSError, ValueError, ArithmeticError, fermion.Refusal) as error:
             stop(in_words(path, error))
     say(f"{time.monotonic() - started:.1f} s")
     return 0 if right else 1

@@ -19,7 +19,8 @@ import molecule  # noqa: E402
 SEED = 20261207
 MOLECULES = os.path.join(face.ROOT, "examples", "molecules")
 SCALE = 10**12
-FROZEN_LIH = -7.882175990788  # Psi4 1.3.2: full CI with the orbital 1s of lithium frozen, hartree
+# Full CI of Psi4 1.3.2 with the lowest orbitals frozen, in hartree: how many are frozen, determinants, electrons, energy.
+FROZEN = {"lih": (1, 25, 2, -7.882175990788), "h2o": (2, 100, 6, -74.996645464190)}
 # What docs/CHEMISTRY.md says: terms, weight in hartree, weight of 4 S2, largest power of ten for [H, 4 S2] and [H, N].
 PAGE = {"lih": (631, 54.748808, 312, 13, 15), "h2o": (1086, 288.040918, 420, 12, 14)}
 H2 = """ &FCI NORB=  2,NELEC= 2,MS2=0,
@@ -27,9 +28,9 @@ H2 = """ &FCI NORB=  2,NELEC= 2,MS2=0,
   ISYM=1
  /
  0.674493D+00 1 1 1 1
- 6.63472E-1 2 2 1 1
+ 6.63472E-1 1 1 2 2
 
- .181287 2 1 2 1
+ .181287 1 2 2 1
  0.697397 2 2 2 2
  -1.252477 1 1 0 0
  -0.475934 2 2 0 0
@@ -116,8 +117,19 @@ def check_page(tally, name):
     for other, power in ((spin, for_spin), (fermion.number(integrals.modes), for_number)):
         for scale, refused in ((10**power, 0), (10**(power + 1), 8)):
             tally.same(f"{name}: where 8 begins", number_of(fcidump.hamiltonian(integrals, scale).commutator, other), refused, scale)
+    with open(os.path.join(face.ROOT, "docs", "CHEMISTRY.md"), encoding="utf-8") as file:
+        page = file.read()
+    tally.same(f"{name}: on the page", [text in page for text in (f"| {terms:,} |", f"| {weight:.6f} hartree |")], [True, True], name)
     small = fcidump.hamiltonian(integrals, 10**6)
     tally.same(f"{name}: H times H has too many terms", number_of(fermion.mul, small, small, ceiling=1 << 28), 10, name)
+
+
+def check_rounding(tally):
+    """Integrals rounded, or coefficients over spin orbitals: the second has no exact spin symmetry."""
+    integrals = fcidump.read(path("lih"))
+    late = [(cre, ann, round(value * SCALE)) for cre, ann, value in fcidump.float_hamiltonian(integrals)]
+    for record, terms in ((fcidump.hamiltonian(integrals, SCALE), 0), (fermion.Record.build(integrals.modes, late), 432)):
+        tally.same("[H, 4 S2] by what is rounded", len(record.commutator(fcidump.four_s2(integrals.modes))), terms, "LiH")
 
 
 def number_of(function, *args, **named):
@@ -159,14 +171,16 @@ def check_order(tally):
 
 
 def check_active(tally):
-    """An active space: the energy with frozen 1s by Psi4; and nothing frozen, all kept, is the molecule itself."""
-    integrals = fcidump.read(path("lih"))
-    tally.same("LiH, all orbitals kept", fcidump.active(integrals, [], range(6)), integrals, "active")
-    frozen = fcidump.active(integrals, [0], range(1, 6))
-    words = molecule.determinants(frozen)
-    rows = [list(enumerate(row)) for row in fcidump.float_hamiltonian(frozen).matrix(words, words)]
-    energy = molecule.lowest_eigenvalue(rows)
-    tally.same("LiH, 1s frozen", (len(words), frozen.electrons, abs(energy - FROZEN_LIH) < 1e-9), (25, 2, True), energy)
+    """Active spaces: Psi4's energies with frozen orbitals; and nothing frozen, all kept, is the molecule itself."""
+    for name, (lowest, count, electrons, known) in FROZEN.items():
+        integrals = fcidump.read(path(name))
+        tally.same(f"{name}, all orbitals kept", fcidump.active(integrals, [], range(integrals.orbitals)), integrals, "active")
+        frozen = fcidump.active(integrals, range(lowest), range(lowest, integrals.orbitals))
+        words = molecule.determinants(frozen)
+        rows = [list(enumerate(row)) for row in fcidump.float_hamiltonian(frozen).matrix(words, words)]
+        energy = molecule.lowest_eigenvalue(rows)
+        tally.same(f"{name}, orbitals frozen", (len(words), frozen.electrons, abs(energy - known) < 1e-9),
+                   (count, electrons, True), energy)
 
 
 def check_counts(tally):
@@ -204,6 +218,7 @@ def main():
     check_counts(tally)
     check_eigenvalues(tally)
     check_active(tally)
+    check_rounding(tally)
     for name, kets in (("lih", 16), ("h2o", 8)):
         check_elements(tally, name, kets)
         check_page(tally, name)

@@ -5,8 +5,8 @@
 
 Each molecule: a restricted Hartree-Fock calculation, Psi4's own FCIDUMP of all its orbitals, each of one symmetry, and
 Psi4's own full configuration interaction, no orbital frozen, as the energy that others are to be compared with.
-Nothing else in this repository needs Psi4 or NumPy. Debian: apt-get install psi4, then
-PYTHONPATH=/usr/lib/<machine>-linux-gnu where `import psi4` does not find it.
+Nothing else in this repository needs Psi4 or NumPy. On Debian: apt-get install psi4, and then, so that Python finds it,
+eval "$(psi4 --psiapi-path)".
 """
 import argparse
 import os
