@@ -4,11 +4,11 @@
     python3 examples/fcidump.py [FILE..]    what each file holds, and how its Hamiltonian fits into a record; without names,
                                             the files of examples/molecules
 
-An FCIDUMP (P. J. Knowles and N. C. Handy, Computer Physics Communications 54 (1989) 75) has a header, &FCI NORB= NELEC= MS2=
-ORBSYM= ISYM= &END, and then a line for each integral over real orbitals, its value and four indices that count from 1:
-i j k l is (ij|kl) in chemists' notation, charge clouds ij and kl; i j 0 0 is the core Hamiltonian's h_ij; i 0 0 0 is an orbital
-energy, not used here; 0 0 0 0 is the energy of the nuclei and of frozen orbitals. Each of the eight (ij|kl), (ji|kl), .., (lk|ji)
-stands for all; one that is left out is zero.
+An FCIDUMP (P. J. Knowles and N. C. Handy, Computer Physics Communications 54 (1989) 75) has a header, &FCI NORB= NELEC=
+MS2= ORBSYM= ISYM= &END, and then a line for each integral over real orbitals, its value and four indices that count from 1:
+i j k l is (ij|kl) in chemists' notation, charge clouds ij and kl; i j 0 0 is the core Hamiltonian's h_ij; i 0 0 0 is an
+orbital energy, not used here; 0 0 0 0 is the energy of the nuclei and of frozen orbitals. Each of the eight (ij|kl),
+(ji|kl), .., (lk|ji) stands for all; one that is left out is zero.
 
 Orbital p, counted from 0, is mode 2 p with spin up and mode 2 p + 1 with spin down.
 """
@@ -38,7 +38,7 @@ Pair = Tuple[int, int]
 
 
 class Integrals(NamedTuple):
-    """What an FCIDUMP holds. Orbitals count from 0; one[p, q] has p >= q, two[(p, q), (r, s)] has p >= q, r >= s, pq >= rs."""
+    """What an FCIDUMP holds. Orbitals count from 0; one[pq] has p >= q, and two[pq, rs] has p >= q, r >= s and pq >= rs."""
 
     orbitals: int
     electrons: int
@@ -53,8 +53,8 @@ class Integrals(NamedTuple):
         return 2 * self.orbitals
 
     def scaled(self, scale):
-        """The integrals in units of 1/scale hartree, rounded to whole numbers. Each spatial integral is rounded once, so that
-        equal ones stay equal, and spin symmetry stays exact."""
+        """The integrals in units of 1/scale hartree, rounded to whole numbers. Each spatial integral is rounded once, so
+        that equal ones stay equal, and spin symmetry stays exact."""
         whole = [{key: round(value * scale) for key, value in part.items()} for part in (self.one, self.two)]
         return self._replace(core=round(self.core * scale), one=whole[0], two=whole[1])
 
@@ -88,7 +88,7 @@ def parse(lines):
         if name in ("one", "two") and abs(value) > SAME and not symmetric(indices, symmetry):
             raise ValueError(f"line {number}: by ORBSYM this integral is zero, not {value}")
     if not seen["core"]:
-        raise ValueError(f"line {len(lines)}: the file ends without the energy of the nuclei, a line with the indices 0 0 0 0")
+        raise ValueError(f"line {len(lines)}: the file ends without the energy of the nuclei, a line with indices 0 0 0 0")
     one, two = (without_zeros({key: value for key, (value, _) in seen[name].items()}) for name in ("one", "two"))
     return Integrals(orbitals, electrons, twice_spin, symmetry, seen["core"][()][0], one, two)
 
@@ -129,7 +129,8 @@ def checked(entries, last):
             raise ValueError(f"line {number}: {name} is {','.join(texts) or 'empty'}, not {count}")
         return [int(text) for text in texts]
 
-    (orbitals,), (electrons,), (twice_spin,), _ = whole("NORB", ""), whole("NELEC", ""), whole("MS2", "0"), whole("ISYM", "1")
+    (orbitals,), (electrons,), (twice_spin,) = whole("NORB", ""), whole("NELEC", ""), whole("MS2", "0")
+    whole("ISYM", "1")
     if not 1 <= orbitals <= MOST_ORBITALS:
         raise ValueError(f"line {entries['NORB'][1]}: NORB is {orbitals}, not 1 to {MOST_ORBITALS}")
     if not (electrons + twice_spin) % 2 == 0 <= electrons - abs(twice_spin) <= electrons + abs(twice_spin) <= 2 * orbitals:
@@ -140,7 +141,7 @@ def checked(entries, last):
     for name in ("UHF", "IUHF"):
         texts, number = entries.get(name, (["0"], last))
         if [text.upper() for text in texts] not in (["0"], [".FALSE."], ["F"], [".F."]):
-            raise ValueError(f"line {number}: {name} says that up and down have orbitals of their own, which is not read here")
+            raise ValueError(f"line {number}: {name} tells of orbitals that differ for up and down, which are not read here")
     return orbitals, electrons, twice_spin, symmetry
 
 
@@ -148,7 +149,8 @@ def entry(line, number, orbitals):
     """The value and the four indices of a line."""
     fields = line.split()
     if len(fields) != 5:
-        raise ValueError(f"line {number}: a value and four indices are expected, not {len(fields)} field{'s' * (len(fields) != 1)}")
+        there = f"{len(fields)} field{'s' * (len(fields) != 1)}"
+        raise ValueError(f"line {number}: a value and four indices are expected, not {there}")
     if not NUMBER.fullmatch(fields[0]) or not math.isfinite(float(re.sub("[dD]", "E", fields[0]))):
         raise ValueError(f"line {number}: {fields[0]!r} is not a number")
     for field in fields[1:]:
@@ -191,8 +193,8 @@ def symmetric(indices, symmetry):
 def active(integrals, frozen, kept):
     """The integrals of an active space: the frozen orbitals doubly occupied, those neither frozen nor kept empty.
 
-    The kept orbitals are numbered anew, in the order given. What the frozen ones do to each other goes into the core energy, and
-    what they do to the others into h_pq.
+    The kept orbitals are numbered anew, in the order given. What the frozen ones do to each other goes into the core energy,
+    and what they do to the others into h_pq.
     """
     def one(p, q):
         return integrals.one.get(pair(p, q), 0)
@@ -200,10 +202,13 @@ def active(integrals, frozen, kept):
     def two(p, q, r, s):
         return integrals.two.get(pairs(p, q, r, s), 0)
 
-    core = integrals.core + sum(2 * one(i, i) + sum(2 * two(i, i, j, j) - two(i, j, i, j) for j in frozen) for i in frozen)
+    def felt(p, q):
+        """h_pq, and what an electron feels of the frozen ones."""
+        return one(p, q) + sum(2 * two(p, q, i, i) - two(p, i, q, i) for i in frozen)
+
+    core = integrals.core + sum(one(i, i) + felt(i, i) for i in frozen)
     new = [(p, q) for p in range(len(kept)) for q in range(p + 1)]
-    inner = {(p, q): one(kept[p], kept[q]) + sum(2 * two(kept[p], kept[q], i, i) - two(kept[p], i, kept[q], i) for i in frozen)
-             for p, q in new}
+    inner = {(p, q): felt(kept[p], kept[q]) for p, q in new}
     outer = {(pq, rs): two(*(kept[x] for x in pq + rs)) for pq in new for rs in new if pq >= rs}
     return integrals._replace(
         orbitals=len(kept), electrons=integrals.electrons - 2 * len(frozen),
@@ -229,8 +234,8 @@ def orders(key):
 def ladders(integrals):
     """The Hamiltonian as products of ladders, (mode, 1) a creation and (mode, 0) an annihilation, with their coefficients.
 
-    It is the sum of h_pq a+p aq, and half the sum of (pq|rs) a+p a+r as aq, over orbitals and over the spins of p, q and of r, s.
-    Exchanging the two electrons, pq and rs, gives the same product again, so that the half is taken by creating p below r only.
+    It is the sum of h_pq a+p aq and half the sum of (pq|rs) a+p a+r as aq, over orbitals and over the spins of p, q and of
+    r, s. Exchanging the two electrons, pq and rs, gives the same product again: half the sum is that with p's mode below r's.
     """
     yield (), integrals.core
     for key, value in integrals.one.items():
@@ -275,9 +280,18 @@ def count(integrals, scale):
 
 
 def largest_scale(record, scale, other):
-    """The largest scale at which the Hamiltonian, here with a smaller one, may be multiplied by the other record: 8 says no
-    above it. The roundings of the integrals make it uncertain in the last digits."""
+    """The scale above which the Hamiltonian, given as a record with another one, cannot be multiplied by the other record,
+    which is refusal 8. It is good to some digits, as each scale rounds the integrals in its own way."""
     return scale * fermion.MAX_WEIGHT / (record.weight * other.weight)
+
+
+def finest(integrals, other, scale=10**12):
+    """The Hamiltonian as a record that can be multiplied by the other one, and its scale: the one given, or less by tens."""
+    while True:
+        record = hamiltonian(integrals, scale)
+        if record.weight * other.weight <= fermion.MAX_WEIGHT:
+            return record, scale
+        scale //= 10
 
 
 # The program

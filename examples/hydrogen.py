@@ -37,8 +37,8 @@ def annihilate(orbital, spin):
 
 
 def hamiltonian():
-    """The sum of h_pq a+p aq and half the sum of (pq|rs) a+p a+r as aq, over both spins of each electron. Both orders of the two
-    electrons give the same product, so that half the sum is the sum over one of them."""
+    """The sum of h_pq a+p aq and half the sum of (pq|rs) a+p a+r as aq, over both spins of each electron. Exchanging the two
+    electrons gives the same product again: half the sum is that with p's mode below r's."""
     terms = {}
     for ((p, q), value), spin in itertools.product(CORE.items(), (0, 1)):
         terms[create(p, spin), annihilate(q, spin)] = value
@@ -51,10 +51,12 @@ def hamiltonian():
 def main():
     library()
     record = hamiltonian()
-    print(f"molecular hydrogen, STO-3G, {DISTANCE} bohr: {len(record)} terms on {MODES} spin orbitals, {len(bytes(record))} bytes")
+    print(f"molecular hydrogen, STO-3G, {DISTANCE} bohr: {len(record)} terms on {MODES} spin orbitals, "
+          f"{len(bytes(record))} bytes")
     hermitian, conserving = record.is_hermitian(), record.conserves_particle_number()
     commutes = len(record.commutator(number(MODES))) == 0
-    print(f"Hermitian: {hermitian}; conserves the number of particles: {conserving}; [H, number operator] has no terms: {commutes}")
+    print(f"Hermitian: {hermitian}; conserves the number of particles: {conserving}; "
+          f"[H, number operator] has no terms: {commutes}")
     basis = [word for word in range(1 << MODES) if bin(word).count("1") == 2]
     matrix = record.matrix(basis)
     print("its matrix on the words with two electrons, in millionths of a hartree:")

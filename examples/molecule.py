@@ -3,10 +3,11 @@
 
     python3 examples/molecule.py [FILE..]       without names, LiH and H2O in STO-3G, examples/molecules/*.fcidump
 
-The Hamiltonian is made twice. As a record of whole numbers the library tells of it, exactly, that it is Hermitian and commutes with
-the number of electrons, with Sz and with S^2. As float terms the library gives its elements between all determinants with the
-molecule's numbers of up and down electrons; the lowest eigenvalue of that matrix is the energy. It is compared with the energies
-that stand in energies.txt beside the file, those of the package that made the file. Status 0: all is as known, to 1e-9 hartree.
+The Hamiltonian is made twice. Of a record of whole numbers the library tells, exactly, that it is Hermitian and commutes
+with the number of electrons, with Sz and with S^2. Of float terms it gives the elements between all determinants with the
+molecule's numbers of up and down electrons; the lowest eigenvalue of their matrix is the energy. It is compared with that
+in energies.txt beside the file, by the package that made the file. Status 0: as known, to 1e-9 hartree; 1: not so; 2: a file
+that cannot be read or does not fit, or no library.
 """
 import itertools
 import math
@@ -14,12 +15,12 @@ import os
 import sys
 import time
 
-from fcidump import float_hamiltonian, four_s2, hamiltonian, in_words, library, read, shipped, stop, twice_sz
+from fcidump import finest, float_hamiltonian, four_s2, in_words, library, read, shipped, stop, twice_sz
 import fermion
 
-SCALE = 10**12  # the record's coefficients are in units of 1/SCALE hartree
 CLOSE = 1e-9  # hartree
-MOST_STEPS = 100  # of Davidson's method; LiH and H2O take about 20
+MOST_STEPS = 100  # of Davidson's method; LiH takes 13, H2O 12
+MOST_SWEEPS = 30  # of Jacobi's; some ten are enough
 STRIPE = 64  # rows of the matrix that are asked for at once
 
 
@@ -68,8 +69,8 @@ def dot(a, b):
 def lowest_eigenvalue(rows, close=1e-8):
     """Of a symmetric matrix, its rows lists of (column, value), by Davidson's method.
 
-    The residual's length is at most `close` at the end, the error of the value about its square. The starting vector has something
-    of every determinant, no two alike, so that the lowest state is found whatever its symmetry.
+    The residual's length is at most `close` at the end, the error of the value about its square. The starting vector has
+    something of every determinant, no two alike, so that the lowest state is found whatever its symmetry.
     """
     diagonal = [dict(row).get(i, 0.0) for i, row in enumerate(rows)]
     lowest = min(range(len(rows)), key=diagonal.__getitem__)
@@ -101,10 +102,12 @@ def lowest_of_small(matrix):
     """The lowest eigenvalue of a small symmetric matrix and its eigenvector, by Jacobi's rotations."""
     n = len(matrix)
     a = [row + [float(i == j) for j in range(n)] for i, row in enumerate(matrix)]  # the eigenvectors grow on the right
-    for _ in range(50):
-        for p, q in itertools.combinations(range(n), 2):
-            if abs(a[p][q]) < 1e-18:
-                continue
+    for _ in range(MOST_SWEEPS):
+        far = [(p, q) for p, q in itertools.combinations(range(n), 2)
+               if abs(a[p][q]) > 1e-16 * (abs(a[p][p]) + abs(a[q][q]))]
+        if not far:
+            break
+        for p, q in far:
             angle = 0.5 * math.atan2(2 * a[p][q], a[q][q] - a[p][p])
             c, s = math.cos(angle), math.sin(angle)
             a[p], a[q] = [c * x - s * y for x, y in zip(a[p], a[q])], [s * x + c * y for x, y in zip(a[p], a[q])]
@@ -119,13 +122,16 @@ def lowest_of_small(matrix):
 
 def known(path):
     """The energies beside the file, by name; none where energies.txt does not list it."""
+    table = os.path.join(os.path.dirname(path), "energies.txt")
     try:
-        with open(os.path.join(os.path.dirname(path), "energies.txt"), encoding="ascii") as file:
+        with open(table, encoding="ascii") as file:
             lines = [line.split() for line in file]
+        return {name: float(value) for file, *values in lines if file == os.path.basename(path)
+                for name, value in zip(("nuclei", "SCF", "full CI"), values)}
     except OSError:
         return {}
-    return {name: float(value) for file, *values in lines if file == os.path.basename(path)
-            for name, value in zip(("nuclei", "SCF", "full CI"), values)}
+    except ValueError as error:
+        raise ValueError(f"{table}: {error}") from None
 
 
 def compared(name, energy, reference):
@@ -139,11 +145,12 @@ def compared(name, energy, reference):
 
 def exact(integrals):
     """Prints what the library tells of the record; whether it is all as it must be."""
-    record = hamiltonian(integrals, SCALE)
+    record, scale = finest(integrals, four_s2(integrals.modes))
     hermitian, commutators = record.is_hermitian(), commuting(record)
-    print(f"  as a record: {len(record)} terms on {record.modes} modes in units of {1 / SCALE:.0e} hartree; "
+    print(f"  as a record: {len(record)} terms on {record.modes} modes in units of {1 / scale:.0e} hartree; "
           f"Hermitian: {hermitian}; at most {record.max_n_body()} electrons at a time")
-    print("  exactly: " + ", ".join(f"[H, {name}] has {terms or 'no'} terms" for name, terms in commutators.items()), flush=True)
+    told = (f"[H, {name}] has {terms or 'no'} terms" for name, terms in commutators.items())
+    print(f"  exactly: {', '.join(told)}", flush=True)
     return hermitian and not any(commutators.values())
 
 
@@ -153,17 +160,20 @@ def run(path):
     print(f"{os.path.basename(path)}: {integrals.orbitals} orbitals, {integrals.electrons} electrons, "
           f"nuclei {integrals.core:.12f} hartree", flush=True)
     say("  the record and its commutators")
-    right = [exact(integrals)]
+    if not exact(integrals):
+        print("  NOT as it must be")
+        return False
     terms, words = float_hamiltonian(integrals), determinants(integrals)
     rows = assembled(terms, words)
     say("  the lowest eigenvalue")
     single = min(value for i, row in enumerate(rows) for column, value in row if column == i)
     print(f"  {len(words)} determinants, {sum(map(len, rows))} elements of {len(words)**2} are not zero")
+    right = True
     for name, energy in (("SCF", single), ("full CI", lowest_eigenvalue(rows))):
         line, agrees = compared(name, energy, references.get(name))
         print(line, flush=True)
-        right.append(agrees)
-    return all(right)
+        right &= agrees
+    return right
 
 
 def main():

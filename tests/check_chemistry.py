@@ -1,9 +1,10 @@
 #!/usr/bin/env python3
-"""The molecules of examples/ and docs/CHEMISTRY.md: their Hamiltonians, element by element, beside the sums over orbitals and spins
-as a textbook writes them, worked out ladder by ladder with rule.py from integrals that this file reads by itself; matrices by
-hand; an active space beside Psi4's energy; the page's examples, and the scales and refusals that it names."""
+"""The molecules of examples/ and docs/CHEMISTRY.md: their Hamiltonians, element by element, beside the sums over orbitals and
+spins as a textbook writes them, worked out ladder by ladder with rule.py from integrals that this file reads by itself;
+matrices by hand; active spaces beside Psi4's energies; the page's examples, and the scales and refusals that it names."""
 import doctest
 import itertools
+import math
 import os
 import random
 import sys
@@ -44,7 +45,7 @@ def path(name):
 
 
 def table(name):
-    """The integrals of a file in units of 1/SCALE hartree, each of the eight orders by itself: h[p, q], g[p, q, r, s], core."""
+    """The integrals of a file in units of 1/SCALE hartree, each of the eight orders by itself: h[pq], g[pqrs] and core."""
     h, g, core = {}, {}, 0
     with open(path(name), encoding="ascii") as file:
         lines = file.read().split("&END\n")[1].splitlines()
@@ -116,10 +117,14 @@ def check_page(tally, name):
     tally.same(f"{name}: weights", (round(record.weight / SCALE, 6), spin.weight), (weight, spin_weight), name)
     for other, power in ((spin, for_spin), (fermion.number(integrals.modes), for_number)):
         for scale, refused in ((10**power, 0), (10**(power + 1), 8)):
-            tally.same(f"{name}: where 8 begins", number_of(fcidump.hamiltonian(integrals, scale).commutator, other), refused, scale)
+            given = number_of(fcidump.hamiltonian(integrals, scale).commutator, other)
+            tally.same(f"{name}: where 8 begins", given, refused, scale)
+            finest = fcidump.finest(integrals, other, scale)
+            tally.same(f"{name}: the finest scale", finest, (fcidump.hamiltonian(integrals, 10**power), 10**power), scale)
     with open(os.path.join(face.ROOT, "docs", "CHEMISTRY.md"), encoding="utf-8") as file:
         page = file.read()
-    tally.same(f"{name}: on the page", [text in page for text in (f"| {terms:,} |", f"| {weight:.6f} hartree |")], [True, True], name)
+    for text in (f"| {terms:,} |", f"| {weight:.6f} hartree |"):
+        tally.same(f"{name}: on the page", text in page, True, text)
     small = fcidump.hamiltonian(integrals, 10**6)
     tally.same(f"{name}: H times H has too many terms", number_of(fermion.mul, small, small, ceiling=1 << 28), 10, name)
 
@@ -146,7 +151,8 @@ def check_hydrogen(tally):
     integrals = fcidump.parse(H2.splitlines())
     tally.same("H2: what is read", integrals, fcidump.Integrals(
         2, 2, 0, (1, 5), 0.25, {(0, 0): -1.252477, (1, 1): -0.475934},
-        {((0, 0), (0, 0)): 0.674493, ((1, 1), (0, 0)): 0.663472, ((1, 0), (1, 0)): 0.181287, ((1, 1), (1, 1)): 0.697397}), "H2")
+        {((0, 0), (0, 0)): 0.674493, ((1, 1), (0, 0)): 0.663472, ((1, 0), (1, 0)): 0.181287,
+         ((1, 1), (1, 1)): 0.697397}), "H2")
     record = fcidump.hamiltonian(integrals, 10**6)
     both, mixed, repulsion, exchange = 2 * -1252477 + 674493, -1252477 - 475934, 663472, 181287
     elements = {(3, 3): both, (12, 12): 2 * -475934 + 697397, (3, 12): exchange, (5, 5): mixed + repulsion - exchange,
@@ -174,7 +180,7 @@ def check_active(tally):
     """Active spaces: Psi4's energies with frozen orbitals; and nothing frozen, all kept, is the molecule itself."""
     for name, (lowest, count, electrons, known) in FROZEN.items():
         integrals = fcidump.read(path(name))
-        tally.same(f"{name}, all orbitals kept", fcidump.active(integrals, [], range(integrals.orbitals)), integrals, "active")
+        tally.same(f"{name}, all orbitals kept", fcidump.active(integrals, [], range(integrals.orbitals)), integrals, name)
         frozen = fcidump.active(integrals, range(lowest), range(lowest, integrals.orbitals))
         words = molecule.determinants(frozen)
         rows = [list(enumerate(row)) for row in fcidump.float_hamiltonian(frozen).matrix(words, words)]
@@ -191,13 +197,15 @@ def check_counts(tally):
     two = {(left, right): rng.uniform(1, 2) for left in pairs for right in pairs if left >= right}
     integrals = fcidump.Integrals(3, 2, 0, (1, 1, 1), 1.0, one, two)
     tally.same("terms without symmetry", fcidump.count(integrals, 10**9), 118, "3 orbitals")
-    tally.same("4 S2 of one orbital", [tuple(term) for term in fcidump.four_s2(2)], [(1, 1, 3), (2, 2, 3), (3, 3, 6)], "4 S2")
+    spin = [tuple(term) for term in fcidump.four_s2(2)]  # 3 n0 + 3 n1 - 6 n0 n1
+    tally.same("4 S2 of one orbital", spin, [(1, 1, 3), (2, 2, 3), (3, 3, 6)], "4 S2")
 
 
 def check_eigenvalues(tally):
     """Matrices whose lowest eigenvalue is known: 2 - 2 cos(pi / (n + 1)) of a chain, and blocks that do not touch."""
     chain = [[(j, 2.0 if i == j else -1.0) for j in (i - 1, i, i + 1) if 0 <= j < 40] for i in range(40)]
-    tally.same("a chain of 40", abs(molecule.lowest_eigenvalue(chain) - 0.005868) < 1e-6, True, molecule.lowest_eigenvalue(chain))
+    value = molecule.lowest_eigenvalue(chain)
+    tally.same("a chain of 40", abs(value - (2 - 2 * math.cos(math.pi / 41))) < 1e-12, True, value)
     blocks = [[(0, 0.0)], [(1, 1.0), (2, 2.0)], [(1, 2.0), (2, 1.0)]]  # 0, and 1 - 2 and 1 + 2
     tally.same("a block beside the lowest element", round(molecule.lowest_eigenvalue(blocks), 9), -1.0, "blocks")
 

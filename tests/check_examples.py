@@ -1,6 +1,6 @@
 #!/usr/bin/env python3
-"""Every example runs to its end with status 0, with a record that ships on its standard input; the energies that they print are
-those of the package that made the files; and what they cannot do they say in a sentence, with a status, without a traceback."""
+"""Every example runs to its end with status 0, with a record that ships on its standard input; the energies that they print
+are those of the package that made the files; what they cannot do they say in a sentence, with a status and no traceback."""
 import glob
 import os
 import re
@@ -16,9 +16,12 @@ MOLECULES = os.path.join(EXAMPLES, "molecules")
 PACKAGE = os.path.join(face.ROOT, "bindings", "python")
 MOST = 300  # seconds for one run
 
-# By Psi4 1.3.2, in hartree: the Hartree-Fock energy and that of full configuration interaction; then the determinants, which are
-# (6 over 2)^2 and (7 over 5)^2, and the modes, two for each orbital.
-KNOWN = {"lih.fcidump": ("-7.862026959371", "-7.882403410324", 225, 12), "h2o.fcidump": ("-74.962928246499", "-75.012403658956", 441, 14)}
+# By Psi4 1.3.2, in hartree: the Hartree-Fock energy and that of full configuration interaction; then the determinants, which
+# are (6 over 2)^2 and (7 over 5)^2, and the modes, two for each orbital.
+KNOWN = {
+    "lih.fcidump": ("-7.862026959371", "-7.882403410324", 225, 12),
+    "h2o.fcidump": ("-74.962928246499", "-75.012403658956", 441, 14),
+}
 CLOSE = 1e-9
 
 
@@ -72,7 +75,8 @@ def check_energies(tally, printed):
         lines = told.get(name, "")
         for what, known in (("SCF", scf), ("full CI", full)):
             found = re.findall(rf"^  {what}: (-\d+\.\d{{12}}) hartree", lines, re.M)
-            tally.same(f"{name}: {what} as by Psi4", len(found) == 1 and abs(float(found[0]) - float(known)) <= CLOSE, True, found)
+            near = len(found) == 1 and abs(float(found[0]) - float(known)) <= CLOSE
+            tally.same(f"{name}: {what} as by Psi4", near, True, found)
         wanted = (f"{determinants} determinants", f"terms on {modes} modes", "Hermitian: True", "[H, N] has no terms",
                   "[H, 2 Sz] has no terms", "[H, 4 S2] has no terms")
         tally.same(f"{name}: what is told exactly", [each for each in wanted if each not in lines], [], lines)
@@ -172,7 +176,8 @@ def check_missing(tally, folder):
     """The library not built, with and without `rt` on the path; and no package at all."""
     os.makedirs(os.path.join(folder, "bindings"))
     for part in ("examples", os.path.join("bindings", "python")):
-        shutil.copytree(os.path.join(face.ROOT, part), os.path.join(folder, part), ignore=shutil.ignore_patterns("*.so*", "__pycache__"))
+        shutil.copytree(os.path.join(face.ROOT, part), os.path.join(folder, part),
+                        ignore=shutil.ignore_patterns("*.so*", "__pycache__"))
     no_rt = os.path.join(folder, "no_rt")
     for name in ("hydrogen.py", "fcidump.py", "molecule.py"):
         program = os.path.join(folder, "examples", name)
@@ -182,7 +187,8 @@ def check_missing(tally, folder):
         tally.same(f"{name} without a library", said(ran, "tools/shared_object.sh"), True, shown(ran))
         ran = run(program, PATH=no_rt, **changed)
         print(f"  {name}, no library and no rt: {ran.stderr.strip()}")
-        tally.same(f"{name} without a library and rt", said(ran, "tools/shared_object.sh", "rt, which is not"), True, shown(ran))
+        told = said(ran, "tools/shared_object.sh", "rt, which is not")
+        tally.same(f"{name} without a library and rt", told, True, shown(ran))
     shutil.rmtree(os.path.join(folder, "bindings"))
     ran = run(os.path.join(folder, "examples", "hydrogen.py"), python=(sys.executable, "-S", "-E"))
     print(f"  hydrogen.py, no package: {ran.stderr.strip()}")
