@@ -301,7 +301,7 @@ def library():
     """Loads the library, or ends the program with a sentence."""
     try:
         fermion.load()
-    except OSError as error:
+    except (OSError, ImportError) as error:  # not there, not a library, or one of another version
         needs = "" if shutil.which("rt") else "; tools/shared_object.sh needs the program rt, which is not on the PATH"
         stop(f"{error}{needs}")
 

@@ -1,6 +1,7 @@
 #!/usr/bin/env python3
 """Every example runs to its end with status 0, with a record that ships on its standard input; the energies that they print
 are those of the package that made the files; what they cannot do they say in a sentence, with a status and no traceback."""
+import _ctypes
 import glob
 import os
 import re
@@ -189,6 +190,10 @@ def check_missing(tally, folder):
         print(f"  {name}, no library and no rt: {ran.stderr.strip()}")
         told = said(ran, "tools/shared_object.sh", "rt, which is not")
         tally.same(f"{name} without a library and rt", told, True, shown(ran))
+    for what, path in (("not a library", example("hop.record")), ("another library", _ctypes.__file__)):
+        ran = run(example("hydrogen.py"), FERMION_LIB=path)
+        print(f"  hydrogen.py, {what}: {ran.stderr.strip()}")
+        tally.same(f"hydrogen.py with {what}", said(ran, path), True, shown(ran))
     shutil.rmtree(os.path.join(folder, "bindings"))
     ran = run(os.path.join(folder, "examples", "hydrogen.py"), python=(sys.executable, "-S", "-E"))
     print(f"  hydrogen.py, no package: {ran.stderr.strip()}")
