@@ -7,6 +7,7 @@ import itertools
 import math
 import os
 import random
+import re
 import sys
 
 import face
@@ -129,6 +130,22 @@ def check_page(tally, name):
     tally.same(f"{name}: H times H has too many terms", number_of(fermion.mul, small, small, ceiling=1 << 28), 10, name)
 
 
+def check_names(tally):
+    """The calls that docs/CHEMISTRY.md names: in the header, in the package, of a record, of float terms."""
+    with open(os.path.join(face.ROOT, "docs", "CHEMISTRY.md"), encoding="utf-8") as file:
+        page = file.read()
+    with open(os.path.join(face.ROOT, "include", "fermion.h"), encoding="utf-8") as file:
+        declared = set(re.findall(r"void (fermion_\w+)\(", file.read()))
+    named = set(re.findall(r"\bfermion_\w+", page))
+    tally.same("docs/CHEMISTRY.md, names in C", (sorted(named - declared), len(named) > 10), ([], True), "fermion.h")
+    for pattern, owner in ((r"\bfermion\.([A-Za-z_]\w+)", fermion), (r"\bRecord\.(\w+)", fermion.Record),
+                           (r"\b(?:a|record)\.(\w+)", fermion.Record), (r"\bFloatTerms\.(\w+)", fermion.FloatTerms),
+                           (r"\bfcidump\.(\w+)\(", fcidump), (r"\bReason\.(\w+)", fermion.Reason)):
+        names = set(re.findall(pattern, page)) - {"h"}  # the file fermion.h
+        missing = [name for name in sorted(names) if not hasattr(owner, name)]
+        tally.same("docs/CHEMISTRY.md, names in Python", (missing, bool(names)), ([], True), pattern)
+
+
 def check_rounding(tally):
     """Integrals rounded, or coefficients over spin orbitals: the second has no exact spin symmetry."""
     integrals = fcidump.read(path("lih"))
@@ -221,6 +238,7 @@ def check_examples_of_the_page(tally):
 def main():
     tally = face.Tally()
     check_examples_of_the_page(tally)
+    check_names(tally)
     check_hydrogen(tally)
     check_order(tally)
     check_counts(tally)
