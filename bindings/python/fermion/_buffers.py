@@ -1,5 +1,8 @@
 """Memory that callers hand over to be read, or lend to be written: where it stands, never a copy.
 
+Nobody else may change it during a call: the library checks what it is handed, and then relies on it. That is the caller's to see
+to, as in C.
+
 Python's buffer protocol tells where the bytes of an object are. ctypes has it for memory that can be written; for memory that
 can only be read, such as a file mapped read-only, two functions of Python's C interface are called here.
 """

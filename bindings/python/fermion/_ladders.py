@@ -67,6 +67,8 @@ class Multiplier:
         rows = self._known.get(words)
         if rows is None:
             self._call(*words, self._rows, ROW * MOST_ROWS, self._answer)
+            if self._answer[0]:
+                raise Refusal(*self._answer[:3])
             rows = [(ann, cre, sign) for ann, cre, sign in struct.iter_unpack("<QQq", self._rows.raw[:self._answer[3]])]
             if len(self._known) >= MOST_KNOWN:
                 self._known.clear()

@@ -24,7 +24,7 @@ def projected(a: Readable, words: "array[int]") -> List[List[int]]:
 
 
 def tiled(a: Readable, modes: int, words: "array[int]") -> List[List[int]]:
-    """The matrix between any number of words, from as few calls with 8 words as there can be of halves."""
+    """The matrix between any number of words, tile by tile."""
     _look_at(words, modes)
     matrix = [[0] * len(words) for _ in words]
     for places in tiles(len(words)):
@@ -48,7 +48,7 @@ def _look_at(basis: "array[int]", modes: int) -> None:
 
 
 def tiles(length: int) -> Iterable[List[int]]:
-    """Places in a basis, at most 8 at a time, so that every two stand together once: halves of 4, each with each."""
+    """Places in a basis, at most 8 at a time, so that every two stand together in some tile: halves of 4, each with each."""
     half = MAX_BASIS // 2
     parts = [list(range(start, min(start + half, length))) for start in range(0, length, half)]
     if len(parts) < 2:
