@@ -45,6 +45,9 @@ class Documents(unittest.TestCase):
         self.assertEqual(names["write"](2, terms), example)
         self.assertEqual(names["read"](example), (2, terms))
         self.assertEqual(bytes(fermion.Record.build(2, terms)), example)
+        turned = [(1, 2, 5), (2, 2, 7)]  # {0|1} and {1|1}: creations first, as the builders take them
+        self.assertEqual(bytes(fermion.Record.build(2, turned)), names["write"](2, turned))
+        self.assertEqual(names["read"](names["write"](2, turned)), (2, turned))
         self.assertEqual(bytes(fermion.Record.build(64, [])), names["write"](64, []))
         self.assertEqual(names["read"](names["write"](64, [])), (64, []))
 
@@ -65,6 +68,11 @@ class Documents(unittest.TestCase):
             self.assertEqual(int(constants[name]), number, name)
         self.assertEqual(constants["MAX_WEIGHT"], "((uint64_t)1 << 60)")
         self.assertEqual(fermion.MAX_WEIGHT, 1 << 60)
+
+    def test_the_names_are_those_of_the_document(self):
+        listed = re.search(r"members of `Reason`:\n(.*?)\n\n", RECORD.read_text(encoding="utf-8"), re.S).group(1)
+        named = {name: int(number) for number, name in re.findall(r"(\d+) `(\w+)`", listed)}
+        self.assertEqual(named, {reason.name: reason.value for reason in fermion.Reason})
 
     def test_all_names_are_there(self):
         self.assertEqual(sorted(fermion.__all__), sorted(set(fermion.__all__)))

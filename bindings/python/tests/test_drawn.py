@@ -155,11 +155,7 @@ class Drawn(unittest.TestCase):
         seen = set()
         for i in range(2 * CASES):
             a, b = (self.two, self.product_pair, self.wide_pair)[i % 3]()
-            result = records.refusal_of_two(a, b)
-            if result is None:
-                (_, left), (_, right) = records.decode(a), records.decode(b)
-                result = records.branches(left, right), records.branches(right, left)
-                result = (7, 0, 0) if 24 * sum(result) > 2**63 else result
+            result = expected(records.branches(a, b), lambda answer: tuple(answer.numbers[4:6]))
             self.assertEqual(outcome(fermion.branches, a, b), result)
             seen.add(result[0] if len(result) == 3 else 0)
         self.assertLessEqual({0, 1, 2, 6, 7}, seen)

@@ -60,6 +60,27 @@ fn the_reasons_have_the_numbers_of_the_document() {
     }
 }
 
+/// `RowsDoNotFit` as the header writes it: `ROWS_DO_NOT_FIT`.
+fn in_capitals(name: &str) -> String {
+    let parted = name.chars().flat_map(|c| [if c.is_uppercase() { "_" } else { "" }.to_string(), c.to_string()]);
+    parted.collect::<String>().trim_start_matches('_').to_uppercase()
+}
+
+#[test]
+fn the_names_are_those_of_the_header() {
+    let header = text("include/fermion.h");
+    let listed = header.split("enum fermion_refusal {").nth(1).unwrap().split('}').next().unwrap();
+    let mut numbers = vec![];
+    for line in listed.lines().filter_map(|line| line.trim().strip_prefix("FERMION_")) {
+        let (name, rest) = line.split_once(" = ").unwrap();
+        let number: u64 = rest.split([',', ' ']).next().unwrap().parse().unwrap();
+        let named = Reason::try_from(number).map_or("OK".into(), |reason| in_capitals(&format!("{reason:?}")));
+        assert_eq!(named, name, "{number}");
+        numbers.push(number);
+    }
+    assert!(numbers.iter().copied().eq(0..=14));
+}
+
 #[test]
 fn the_limits_are_those_of_the_document() {
     assert_eq!((MAX_MODES, MAX_TERMS, MAX_BYTES, MAX_BASIS, ROW), (64, 2_048, 49_184, 8, 24));
