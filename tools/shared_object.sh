@@ -94,7 +94,7 @@ compile_here() { # WHERE-TO: the module for this machine's processor
 link() { logged gcc -shared -nostartfiles -Wl,-soname,libfermion.so.0,-z,relro,-z,now -o "$new" "$@"; }
 
 : >"$log"
-say "proving and compiling: rt staticlib fermion (4 minutes from nothing, half a minute where all is proved already)"
+say "proving and compiling: rt staticlib fermion (up to 4 minutes from nothing, half a minute where all is proved)"
 logged rt staticlib fermion
 if [ "$(uname -m)" = x86_64 ]; then
     kind="x86-64, the archive's own code"
