@@ -4,6 +4,7 @@ import glob
 import os
 import re
 import subprocess
+import textwrap
 
 ROOT = os.path.dirname(os.path.dirname(os.path.abspath(__file__)))
 os.chdir(ROOT)
@@ -63,6 +64,41 @@ def the_readme_names_the_toolchain():
     return [] if version and version in text("README.md") else [f"README.md does not have {version!r}"]
 
 
+def the_readme_shows_what_its_commands_print():
+    """A block of commands that begins so is run as it stands, and the block after it is the end of what it prints."""
+    begins = "rt check commutator && ", "PYTHONPATH=bindings/python python3 -c "
+    blocks = [textwrap.dedent(block) for block in re.findall(r"(?:^    .*\n)+", text("README.md"), re.M)]
+    faults, ran = [], 0
+    for command, shown in zip(blocks, blocks[1:]):
+        if command.startswith(begins):
+            run = subprocess.run(["bash", "-c", command], capture_output=True, text=True)
+            ran += 1
+            if not run.stdout.endswith(shown):
+                faults.append(f"{command}prints {(run.stdout + run.stderr)[-400:]!r}, not {shown!r}")
+    return faults if ran == len(begins) else [*faults, f"{ran} commands found, not {len(begins)}"]
+
+
+def links_lead_somewhere():
+    """Links of the documents to files of the repository, and to headings in them."""
+    faults = []
+    for path in ["README.md", *glob.glob("docs/*.md"), *glob.glob("bindings/*/README.md"), *glob.glob("examples/**/*.md", recursive=True)]:
+        for link in re.findall(r"\]\(([^)\s]+)\)", text(path)):
+            target, _, heading = link.partition("#")
+            there = os.path.normpath(os.path.join(os.path.dirname(path), target)) if target else path
+            if "://" in link:
+                continue
+            if not os.path.exists(there):
+                faults.append(f"{path}: {link}")
+            elif heading and heading not in [anchor(line) for line in re.findall(r"^#+ (.*)$", text(there), re.M)]:
+                faults.append(f"{path}: {link}: no such heading")
+    return faults
+
+
+def anchor(heading):
+    """What a heading is linked by."""
+    return re.sub(r"[^\w\- ]", "", heading.lower()).replace(" ", "-")
+
+
 def layout_is_the_formatters():
     run = subprocess.run(["rt", "fmt", "--check"], capture_output=True, text=True)
     return [] if run.returncode == 0 else [run.stdout + run.stderr]
@@ -70,7 +106,8 @@ def layout_is_the_formatters():
 
 TESTS = [
     each_has_a_statement, each_is_in_promises, the_face_refuses_by_itself, the_header_is_the_face,
-    specs_hold_definitions_only, edits_say_what_they_are, the_readme_names_the_toolchain, layout_is_the_formatters,
+    specs_hold_definitions_only, edits_say_what_they_are, the_readme_names_the_toolchain,
+    the_readme_shows_what_its_commands_print, links_lead_somewhere, layout_is_the_formatters,
 ]
 
 
