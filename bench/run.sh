@@ -1,6 +1,6 @@
 #!/bin/sh
 # Times the library beside the unchanged Rust, every pair in one process and by turns, and prints the ratios that stand in
-# docs/SPEED.md. oracle/README.md lists what the Rust needs.
+# docs/SPEED.md; then what has no counterpart in the Rust. oracle/README.md lists what the Rust needs.
 #
 #   ZIXY_SRC=<folder of zixy's sources> sh bench/run.sh
 set -eu
@@ -16,3 +16,7 @@ for program in add commutator matrix float; do
 done
 echo "== the sort, on an order made against it"
 python3 "$root/bench/against_sort.py"
+echo "== a prepared list of float terms, from Python"
+python3 "$root/bench/float_terms.py"
+echo "== what each call costs"
+"$root/bench/costs.sh"

@@ -78,6 +78,21 @@ def the_readme_shows_what_its_commands_print():
     return faults if ran == len(begins) else [*faults, f"{ran} commands found, not {len(begins)}"]
 
 
+def what_documents_once_said_wrongly_is_right():
+    """Sentences that were untrue or unclear, each with what must stand in its place."""
+    right = [
+        ("README.md", r"`oracle/` \|[^|]*sources are not in the repository"),
+        ("README.md", r"`shared_object.sh`, the library for C, Rust and Python"),
+        ("README.md", r"\n## Licence\n\nApache License 2\.0"),
+        ("LICENSE", r"^\s*Apache License\n\s*Version 2\.0"),
+        ("include/fermion.h", r"archive libfermion\.a, which is for x86-64 alone"),
+        ("docs/RECORD.md", r"\| 1 \| [^|]*1 to 64[^|]*at most 2,048[^|]*\|"),
+        ("docs/RECORD.md", r"def write\(m, terms\):  # terms: \(creation word, annihilation word, coefficient\)"),
+        ("docs/INSTALL.md", r"2\^24 = 16,777,216 bytes that nobody asked for"),
+    ]
+    return [f"{path}: no {pattern!r}" for path, pattern in right if not re.search(pattern, text(path))]
+
+
 def links_lead_somewhere():
     """Links of the documents to files of the repository, and to headings in them."""
     faults = []
@@ -107,7 +122,8 @@ def layout_is_the_formatters():
 TESTS = [
     each_has_a_statement, each_is_in_promises, the_face_refuses_by_itself, the_header_is_the_face,
     specs_hold_definitions_only, edits_say_what_they_are, the_readme_names_the_toolchain,
-    the_readme_shows_what_its_commands_print, links_lead_somewhere, layout_is_the_formatters,
+    the_readme_shows_what_its_commands_print, what_documents_once_said_wrongly_is_right, links_lead_somewhere,
+    layout_is_the_formatters,
 ]
 
 

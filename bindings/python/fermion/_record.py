@@ -31,6 +31,8 @@ class Record:
     >>> a, b = Record.ladders(2, [(0, 0)]), Record.ladders(2, [(0, 1)])
     >>> print(a * b + b * a, "and", 2 * a - a, "and", (a * b) ** 2)
     1 {|} and 1 {|0} and 1 {|} - 1 {0|0}
+    >>> print(sum([a, b, a]) + 5, "and", a * b == 1 - b * a)  # a whole number is as many {|}
+    5 {|} + 1 {0|} + 2 {|0} and True
 
     Any bytes may be given; what is not a record is refused.
 
@@ -188,17 +190,34 @@ class Record:
 
     # Operators, each by the library's call
 
-    def __add__(self, other: Operand) -> Record:
-        return Record._written(summed("add", self, other)) if isinstance(other, _operands) else NotImplemented
+    def __add__(self, other: Union[Operand, Whole]) -> Record:
+        second = _operand(self, other)
+        if second is None:
+            return NotImplemented
+        return Record._written(summed("add", self, second))
 
-    def __sub__(self, other: Operand) -> Record:
-        return Record._written(summed("sub", self, other)) if isinstance(other, _operands) else NotImplemented
+    def __sub__(self, other: Union[Operand, Whole]) -> Record:
+        second = _operand(self, other)
+        if second is None:
+            return NotImplemented
+        return Record._written(summed("sub", self, second))
 
     def __mul__(self, other: Union[Operand, Whole]) -> Record:
-        return _product(self, other)
+        second = _operand(self, other)
+        if second is None:
+            return NotImplemented
+        return Record._written(multiplied("mul", self, second)[0])
+
+    # A whole number on the left: it stands as well on the right, but for a difference.
+
+    def __radd__(self, other: Whole) -> Record:
+        return self + other
+
+    def __rsub__(self, other: Whole) -> Record:
+        return -self + other
 
     def __rmul__(self, other: Whole) -> Record:
-        return _product(self, other)
+        return self * other
 
     def __neg__(self) -> Record:
         return Record.build(self.modes, []) - self
@@ -311,8 +330,14 @@ class Product(_Product):
     def __add__(self, other: Any) -> Any:
         return self.record + other
 
+    def __radd__(self, other: Any) -> Any:
+        return other + self.record
+
     def __sub__(self, other: Any) -> Any:
         return self.record - other
+
+    def __rsub__(self, other: Any) -> Any:
+        return other - self.record
 
     def __mul__(self, other: Any) -> Any:
         return self.record * other
@@ -331,13 +356,11 @@ Operand = Union[Record, Product]
 _operands = (Record, Product)
 
 
-def _product(a: Record, other: Any) -> Record:
-    """A record times a record on its right, or times a whole number: that is the term {|} with this coefficient."""
-    if not isinstance(other, _operands):
-        if not hasattr(type(other), "__index__"):
-            return NotImplemented
-        other = Record.build(a.modes, [(0, 0, other)])
-    return Record._written(multiplied("mul", a, other)[0])
+def _operand(a: Record, other: Any) -> Optional[Operand]:
+    """What stands beside a record: another, or a whole number, which is the term {|} with this coefficient; else nothing."""
+    if isinstance(other, _operands):
+        return other
+    return Record.build(a.modes, [(0, 0, other)]) if hasattr(type(other), "__index__") else None
 
 
 def _numpy() -> Any:

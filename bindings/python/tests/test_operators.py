@@ -26,6 +26,18 @@ class Arithmetic(unittest.TestCase):
         self.assertEqual(str(-(self.n0 - self.n1)), "-1 {0|0} + 1 {1|1}")
         self.assertEqual(True * self.n0, self.n0)
 
+    def test_a_whole_number_is_as_many_units(self):
+        self.assertEqual((self.n0 + 3, 3 + self.n0), (self.n0 + 3 * self.unit,) * 2)
+        self.assertEqual((self.n0 - 3, 3 - self.n0), (self.n0 - 3 * self.unit, 3 * self.unit - self.n0))
+        self.assertEqual(sum([self.n0, self.hop, self.n0]), 2 * self.n0 + self.hop)
+        self.assertEqual(self.hop * self.hop.adjoint(), self.n0 - self.n0 * self.n1)  # a0+ a1 a1+ a0 = n0 (1 - n1)
+        self.assertEqual(self.n0 * (1 - self.n1), self.n0 - self.n0 * self.n1)
+        answer = fermion.mul(self.n0, self.n0)
+        self.assertEqual((answer + 1, 1 + answer, answer - 1, 1 - answer),
+                         (self.n0 + 1, self.n0 + 1, self.n0 - 1, 1 - self.n0))
+        with Refused(self, 9, 0, 0):
+            self.n0 + 2**60
+
     def test_products(self):
         self.assertEqual(self.hop * self.n1, self.hop)  # a0+ a1 a1+ a1 = a0+ a1
         self.assertEqual(self.n1 * self.hop, self.none)
@@ -72,7 +84,6 @@ class Arithmetic(unittest.TestCase):
             for wrong in (lambda: self.n0 + other, lambda: other + self.n0, lambda: self.n0 - other, lambda: other - self.n0,
                           lambda: self.n0 * other, lambda: other * self.n0):
                 self.assertRaises(TypeError, wrong)
-        self.assertRaises(TypeError, lambda: self.n0 + 1)
         self.assertFalse(self.n0 == 1)
         self.assertTrue(self.n0 != EXAMPLE)
 
@@ -90,7 +101,7 @@ class Arithmetic(unittest.TestCase):
             self.assertEqual(three * self.n0, 3 * self.n0)
             self.assertEqual(self.n0 * three, 3 * self.n0)
         self.assertRaises(TypeError, lambda: numpy.float64(3) * self.n0)
-        self.assertRaises(TypeError, lambda: numpy.int64(3) + self.n0)
+        self.assertEqual((numpy.int64(3) + self.n0, numpy.int64(3) - self.n0), (3 + self.n0, 3 - self.n0))
         answer = fermion.mul(self.n0, self.n0)
         self.assertEqual((numpy.int64(3) * answer, answer * numpy.int64(3)), (3 * self.n0,) * 2)
 
