@@ -5,7 +5,7 @@ import struct
 from typing import Dict, Iterable, List, Tuple
 
 from ._buffers import as_word
-from ._types import Refusal, Term, Whole, whole
+from ._types import TERM, Refusal, Term, Whole, parts, whole
 from ._work import HEADER, MAX_TERMS, MAX_WEIGHT, ROW
 
 
@@ -22,7 +22,8 @@ def built(modes: int, terms: Iterable[Tuple[Whole, Whole, Whole]]) -> bytes:
 def _joined(modes: int, terms: Iterable[Tuple[Whole, Whole, Whole]]) -> List[Term]:
     """The terms ascending by (annihilation, creation), each pair of words once, without zeros."""
     sums: Dict[Tuple[int, int], int] = {}
-    for place, (cre, ann, coeff) in enumerate(terms):
+    for place, term in enumerate(terms):
+        cre, ann, coeff = parts(term, TERM, "term {}", place)
         cre = as_word(cre, "term {}: the creation word", place)
         ann = as_word(ann, "term {}: the annihilation word", place)
         coeff = whole(coeff, "term {}: the coefficient", place)

@@ -11,7 +11,7 @@ from typing import Any, Callable, Dict, Iterable, Iterator, List, Sequence, Tupl
 from ._buffers import as_float, as_floats, as_parts, as_word, as_words, place_of
 from ._face import bare
 from ._ladders import Products, mode_count, multiplied_out
-from ._types import Reason, Refusal, Whole
+from ._types import TERM, Reason, Refusal, Whole, parts
 
 Number = Union[float, complex]
 #: A call, and where it has its bra and its ket, its value and its answer.
@@ -41,7 +41,8 @@ class FloatTerms:
 
     def __init__(self, modes: Whole, terms: Iterable[Tuple[Whole, Whole, Number]]) -> None:
         cre, ann, coeff = array("Q"), array("Q"), []
-        for place, (creations, annihilations, number) in enumerate(terms):
+        for place, term in enumerate(terms):
+            creations, annihilations, number = parts(term, TERM, "term {}", place)
             cre.append(as_word(creations, "term {}: the creation word", place))
             ann.append(as_word(annihilations, "term {}: the annihilation word", place))
             coeff.append(_number(number, "term {}: the coefficient", place))

@@ -6,7 +6,7 @@ import struct
 from typing import Any, Callable, Dict, Iterable, Iterator, List, Mapping, Tuple, TypeVar, Union
 
 from ._face import function
-from ._types import Refusal, Whole, whole
+from ._types import Refusal, Whole, parts, whole
 from ._work import MAX_MODES, MAX_TERMS, ROW
 
 T = TypeVar("T")
@@ -20,6 +20,7 @@ Sum = Dict[Tuple[int, int], int]
 #: Rows of a product of two terms: annihilation word, creation word, 1 or -1.
 Rows = List[Tuple[int, int, int]]
 
+LADDER = ("mode", "1 to create or 0 to annihilate")
 MOST_ROWS = 2  # of a term times one ladder
 MOST_KNOWN = 1 << 16
 
@@ -46,7 +47,8 @@ class Multiplier:
 
     def _words(self, ladders: Ladders, place: int) -> Iterator[Tuple[int, int]]:
         """Each ladder as a term's two words."""
-        for at, (mode, action) in enumerate(ladders):
+        for at, ladder in enumerate(ladders):
+            mode, action = parts(ladder, LADDER, "product {}, ladder {}", place, at)
             mode = whole(mode, "product {}, ladder {}: the mode", place, at)
             action = whole(action, "product {}, ladder {}: the action", place, at)
             if action not in (0, 1):
@@ -90,7 +92,8 @@ def multiplied_out(modes: int, products: Products[Any], number: Callable[[Any, s
     which `number` makes one or raises a TypeError that names it."""
     multiplier = Multiplier(modes)
     pairs = products.items() if isinstance(products, Mapping) else products
-    for place, (ladders, given) in enumerate(pairs):
+    for place, pair in enumerate(pairs):
+        ladders, given = parts(pair, ("ladders", "coefficient"), "product {}", place)
         coeff = number(given, "product {}: the coefficient", place)
         for (cre, ann), count in multiplier.product(ladders, place).items():
             yield cre, ann, count, coeff

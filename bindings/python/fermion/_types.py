@@ -3,7 +3,7 @@ from __future__ import annotations
 
 import operator
 from enum import IntEnum
-from typing import Any, Iterable, Iterator, NamedTuple, Optional, SupportsIndex
+from typing import Any, Iterable, Iterator, NamedTuple, Optional, SupportsIndex, Tuple
 
 #: A whole number as a caller gives it: an int, or anything else that is one, such as NumPy's.
 Whole = SupportsIndex
@@ -82,6 +82,10 @@ class Refusal(Exception):
         return f"refused {int(self.number)} (operand {self.operand}, place {self.place}): {self.sentence}"
 
 
+#: What a term is given as.
+TERM = ("creation word", "annihilation word", "coefficient")
+
+
 class Term(NamedTuple):
     """A creation word, an annihilation word and a coefficient.
 
@@ -151,6 +155,17 @@ def whole(number: Whole, what: str, *places: int) -> int:
         return operator.index(number)
     except TypeError:
         raise TypeError(f"{what.format(*places)} is {number!r}, not a whole number") from None
+
+
+def parts(entry: Any, form: Tuple[str, ...], what: str, *places: int) -> Tuple[Any, ...]:
+    """The parts of an entry that has as many as its form; anything else is a TypeError that names the entry."""
+    try:
+        made = tuple(entry)
+    except TypeError:
+        made = ()
+    if len(made) != len(form):
+        raise TypeError(f"{what.format(*places)} is {entry!r}, not ({', '.join(form)})")
+    return made
 
 
 def word(*modes: Whole) -> int:

@@ -110,6 +110,20 @@ class WholeNumbers(unittest.TestCase):
             with self.assertRaisesRegex(TypeError, message):
                 wrong()
 
+    def test_what_has_another_form_is_named(self):
+        for message, wrong in [
+            (r"term 1 is \(1, 2\), not \(creation word, annihilation word, coefficient\)",
+             lambda: Record.build(1, [(1, 1, 1), (1, 2)])),
+            (r"term 0 is 1, not \(creation word,", lambda: Record.build(1, [1, 1, 1])),
+            (r"term 0 is \(0, 0\), not \(creation word,", lambda: fermion.FloatTerms(2, [(0, 0)])),
+            (r"product 0, ladder 0 is 3, not \(mode,", lambda: Record.ladders(4, (3, 1))),
+            (r"product 0, ladder 0 is 3, not \(mode,", lambda: Record.from_ladders(4, {(3, 1): 1})),
+            (r"product 0, ladder 0 is '3', not \(mode,", lambda: Record.ladders(4, "3^ 0_")),
+            (r"product 1 is 5, not \(ladders, coefficient\)", lambda: Record.from_ladders(4, [((), 1), 5])),
+        ]:
+            with self.assertRaisesRegex(TypeError, message):
+                wrong()
+
 
 class Folders(unittest.TestCase):
     def ran(self, code, folder, **environment):
