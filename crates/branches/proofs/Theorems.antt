@@ -47,7 +47,8 @@ module _ (a b : List ℕ) (r : BranchCounts) (er : r ≡ branchesTold a b) (z : 
   unfolding branchesTold
   is = go (eqb ((branchesRefusal a b) .number) 0) refl er
     where
-      go : (s : Bool) → eqb ((branchesRefusal a b) .number) 0 ≡ s → r ≡ cond s (counted (branchesIn a b) (branchesIn b a)) (uncounted (branchesRefusal a b)) → r ≡ counted (branchesIn a b) (branchesIn b a)
+      go : (s : Bool) → eqb ((branchesRefusal a b) .number) 0 ≡ s
+          → r ≡ cond s (counted (branchesIn a b) (branchesIn b a)) (uncounted (branchesRefusal a b)) → r ≡ counted (branchesIn a b) (branchesIn b a)
       go true q e = e
       go false q e = absurd (eqb-false _ _ q (ap (λ (x : BranchCounts). x .refusal .number) (sym e) ∙ z))
 

@@ -13,7 +13,8 @@ use Rattle.branches.proofs.of_all.Statement.{statement}
 use Rattle.branches.proofs.of_all.Tie as tie
 
 abbrev Inv-loop : tie.InvT-loop
-Inv-loop a na b nb so-far₀ i₀ so-far i = (i ≤ na) × Counts so-far (allBranches false (drop i (termsIn a na)) (termsIn b nb)) (allBranches false (termsIn a na) (termsIn b nb))
+Inv-loop a na b nb so-far₀ i₀ so-far i =
+    (i ≤ na) × Counts so-far (allBranches false (drop i (termsIn a na)) (termsIn b nb)) (allBranches false (termsIn a na) (termsIn b nb))
 
 abbrev μ-loop : tie.MeasureT-loop
 μ-loop a na b nb so-far₀ i₀ so-far i = na - i

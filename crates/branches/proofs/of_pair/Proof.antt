@@ -22,8 +22,11 @@ module _ (t u : Term) (d : Bool) (is : d ≡ not (notEmpty (t .cre) (t .ann) (u 
   empty h = rw (empty-where d (notEmpty (t .cre) (t .ann) (u .cre) (u .ann)) is h) (sym (up-exact 0 (omega arith)))
 
   -- w are the branching modes
-  full : d ≡ false → (w r : ℕ) → w < 2 ^ 64 → ((p : ℕ) → bit w p ≡ branching (t .cre) (t .ann) (u .cre) (u .ann) p) → r ≡ upTo (2 ^ ones w) → r ≡ upTo (branchesOf t u)
-  full h w r small modes e = rw (full-where d (notEmpty (t .cre) (t .ann) (u .cre) (u .ann)) is h) (e ∙ ap (λ (n : ℕ). upTo (2 ^ n)) (bifurcation-number (t .cre) (t .ann) (u .cre) (u .ann) w small modes))
+  full : d ≡ false → (w r : ℕ) → w < 2 ^ 64 → ((p : ℕ) → bit w p ≡ branching (t .cre) (t .ann) (u .cre) (u .ann) p)
+      → r ≡ upTo (2 ^ ones w) → r ≡ upTo (branchesOf t u)
+  full h w r small modes e =
+      let number = bifurcation-number (t .cre) (t .ann) (u .cre) (u .ann) w small modes in
+      rw (full-where d (notEmpty (t .cre) (t .ann) (u .cre) (u .ann)) is h) (e ∙ ap (λ (n : ℕ). upTo (2 ^ n)) number)
 
 destroys-requires : tie.Need-destroys-requires
 destroys-requires c κs = search needs
