@@ -44,13 +44,13 @@
 
 #define FERMION_VERSION "0.1.0"
 
-#define FERMION_MAX_MODES 64                   /* modes of a record, at least 1 */
-#define FERMION_MAX_TERMS 2048                 /* terms of a record, and entries of a list of float terms */
-#define FERMION_MAX_RECORD 49184               /* bytes of the longest record, 32 + 24 * FERMION_MAX_TERMS */
-#define FERMION_ROW 24                         /* bytes of a row: one term of a product */
-#define FERMION_MAX_WEIGHT ((uint64_t)1 << 60) /* sum of the magnitudes of a record's coefficients */
-#define FERMION_MAX_BASIS 8                    /* words of a matrix' basis */
-#define FERMION_MAX_STACK 16384                /* bytes of stack that a call needs */
+#define FERMION_MAX_MODES 64                             /* modes of a record, at least 1 */
+#define FERMION_MAX_TERMS 2048                           /* terms of a record, and entries of a list of float terms */
+#define FERMION_MAX_RECORD 49184                         /* bytes of the longest record, 32 + 24 * FERMION_MAX_TERMS */
+#define FERMION_ROW 24                                   /* bytes of a row: one term of a product */
+#define FERMION_MAX_WEIGHT UINT64_C(1152921504606846976) /* 2^60: sum of a record's coefficients' magnitudes */
+#define FERMION_MAX_BASIS 8                              /* words of a matrix' basis */
+#define FERMION_MAX_STACK 16384                          /* bytes of stack that a call needs */
 
 /* answer[0]. docs/RECORD.md has each in full. */
 enum fermion_refusal {

@@ -6,7 +6,7 @@
 # Each file comes under another name first and takes its place when it is whole.
 set -euo pipefail
 say() { echo "tools/install.sh: $1" >&2; }
-here=$(cd "$(dirname "$0")/.." && pwd -P)
+here=$(cd "$(dirname "$(readlink -f "$0")")/.." && pwd -P)
 case ${1:-} in
 -h | --help) exec sed -n '2,/^set /{/^set /d; s/^# \{0,1\}//; p}' "$here/tools/install.sh" ;;
 esac
@@ -15,12 +15,18 @@ if [ $# -ne 1 ] || [ -z "$1" ] || [ "${1#-}" != "$1" ]; then
     exit 2
 fi
 prefix=$(realpath -m -- "$1")
-root=${DESTDIR:-}$prefix
+root=$(realpath -m -- "${DESTDIR:-}$prefix")
 cd "$here"
 built=$(tools/shared_object.sh) # which says itself what it does, and what is missing
 library=${built%%: *}
 version=$(sed -n 's/^#define FERMION_VERSION "\(.*\)"$/\1/p' include/fermion.h)
-unfinished=()
+if ! mkdir -p "$root" || ! exec 8<"$root"; then
+    say "$root cannot be written to"
+    exit 1
+fi
+flock 8 # two installations into one folder come one after the other
+scratch=$(mktemp -d)
+unfinished=("$scratch")
 trap 'rm -rf "${unfinished[@]}"' EXIT
 
 file() { # FROM TO MODE
@@ -50,6 +56,8 @@ folder() { # TO FROM..: a folder that holds these files and folders, and nothing
     mkdir "$new"
     cp -R "$@" "$new/"
     find "$new" -name __pycache__ -prune -exec rm -rf {} +
+    # links to other files of the repository lead nowhere from here: their words stay
+    find "$new" -name '*.md' -exec sed -i 's/\[\([^]]*\)\](\.\.[^)]*)/\1/g' {} +
     chmod -R u=rwX,go=rX "$new"
     [ ! -e "$to" ] || mv -T "$to" "$new.old"
     mv -T "$new" "$to"
@@ -61,22 +69,18 @@ file "$library" "$root/lib/libfermion.so.$version" 755
 alias_of "libfermion.so.$version" "$root/lib/libfermion.so.0"
 alias_of libfermion.so.0 "$root/lib/libfermion.so"
 [ "$(uname -m)" != x86_64 ] || file target/staticlib/libfermion.a "$root/lib/libfermion.a" 644
-sed "s/@VERSION@/$version/" tools/fermion.pc.in >target/fermion.pc.$$
-unfinished+=("target/fermion.pc.$$")
-file target/fermion.pc.$$ "$root/lib/pkgconfig/fermion.pc" 644
-python=target/install.$$ # the package and the library, together before they are moved
-unfinished+=("$python")
-mkdir -p "$python"
-cp -R bindings/python/fermion/. "$python/"
-cp -f "$library" "$python/libfermion.so"
-folder "$root/lib/python/fermion" "$python"/*
+sed "s/@VERSION@/$version/" tools/fermion.pc.in >"$scratch/fermion.pc"
+file "$scratch/fermion.pc" "$root/lib/pkgconfig/fermion.pc" 644
+cp "$library" "$scratch/libfermion.so"
+folder "$root/lib/python/fermion" bindings/python/fermion/* "$scratch/libfermion.so"
 folder "$root/share/fermion/rust" bindings/rust/{Cargo.toml,Cargo.lock,build.rs,README.md,src} LICENSE NOTICE
-folder "$root/share/doc/fermion" docs/INSTALL.md docs/RECORD.md examples/example.c LICENSE NOTICE
+folder "$root/share/doc/fermion" docs/{INSTALL,RECORD,PROMISES}.md examples/example.c LICENSE NOTICE
 
+quoted=$(printf %q "$prefix")
 cat <<TEXT
 fermion $version is in $root
-C:       export PKG_CONFIG_PATH=$prefix/lib/pkgconfig
-         cc example.c \$(pkg-config --cflags --libs fermion)      with $prefix/share/doc/fermion/example.c
-Python:  export PYTHONPATH=$prefix/lib/python
+C:       export PKG_CONFIG_PATH=$quoted/lib/pkgconfig
+         cc example.c \$(pkg-config --cflags --libs fermion)      with $quoted/share/doc/fermion/example.c
+Python:  export PYTHONPATH=$quoted/lib/python
 Rust:    fermion = { path = "$prefix/share/fermion/rust" }        under [dependencies] of Cargo.toml
 TEXT

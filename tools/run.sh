@@ -2,7 +2,7 @@
 # tools/run.sh NAME: runs the proved program target/bin/NAME, under the toolchain's loader, and under its emulator where
 # the machine is no x86-64. Standard input and output are the program's own.
 set -euo pipefail
-cd "$(dirname "$0")/.."
+cd "$(dirname "$(readlink -f "$0")")/.."
 say() { echo "tools/run.sh: $1" >&2; }
 usage="usage: tools/run.sh NAME, a program that 'rt check NAME' has proved, as in tools/run.sh commutator <two-records"
 case ${1:-} in

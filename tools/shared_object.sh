@@ -9,7 +9,8 @@
 # whole, so a build that fails leaves the old one as it was. Beside OUT stands the link libfermion.so.0, the name under which
 # a program that is linked with OUT looks for it.
 set -euo pipefail
-cd "$(dirname "$0")/.."
+out=$(realpath -m -- "${1:-$(dirname "$(readlink -f "$0")")/../target/native/libfermion.so}")
+cd "$(dirname "$(readlink -f "$0")")/.."
 
 say() { echo "tools/shared_object.sh: $1" >&2; }
 need() { # COMMAND WHAT-FOR
@@ -21,12 +22,8 @@ case ${1:-} in
 -h | --help) exec sed -n '2,/^set /{/^set /d; s/^# \{0,1\}//; p}' tools/shared_object.sh ;;
 esac
 need rt "it is the command of the Rattle toolchain, which proves and compiles the library (docs/INSTALL.md)"
-out=$(realpath -m "${1:-target/native/libfermion.so}")
-mkdir -p "$(dirname "$out")" target/log
 log=target/log/shared_object.out
 archive=target/staticlib/libfermion.a
-exec 9>"$out.lock"
-flock 9 # two tests may ask for it at once
 
 sources() {
     { rt version; uname -m; sha256sum tools/shared_object.sh crates.txt; find crates -type f -exec sha256sum {} + | sort; } |
@@ -35,11 +32,21 @@ sources() {
 results() { cat "$1" "$archive" 2>/dev/null | sha256sum; }
 from=$(sources)
 alias=$(dirname "$out")/libfermion.so.0
-if [ -f "$out" ] && [ -f "$alias" ] && [ -f "$archive" ] &&
-    [ "$(head -n 2 "$out.from" 2>/dev/null)" = "$from"$'\n'"$(results "$out")" ]; then
-    echo "$out: $(tail -n 1 "$out.from")"
-    exit
+stop_if_made() { # nothing has changed since OUT was made
+    if [ -f "$out" ] && [ -f "$alias" ] && [ -f "$archive" ] &&
+        [ "$(head -n 2 "$out.from" 2>/dev/null)" = "$from"$'\n'"$(results "$out")" ]; then
+        echo "$out: $(tail -n 1 "$out.from")"
+        exit
+    fi
+}
+stop_if_made # before anything is written, for a folder that can only be read
+if ! mkdir -p "$(dirname "$out")" target/log 2>/dev/null || ! : 2>/dev/null >>"$out.lock"; then
+    say "the library is to be made, and $(dirname "$out") or target/ cannot be written to"
+    exit 1
 fi
+exec 9>"$out.lock"
+flock 9 # two tests may ask for it at once
+stop_if_made
 
 need gcc "it links the shared object"
 work=$(mktemp -d "$PWD/target/shared_object.XXXXXX")
@@ -107,6 +114,6 @@ else
 fi
 printf '%s\n' "$from" "$(results "$new")" "$kind" >"$new.from"
 mv -f "$new" "$out"
-ln -sfn "$(basename "$out")" "$alias"
+[ "$out" = "$alias" ] || ln -sfn "$(basename "$out")" "$alias"
 mv -f "$new.from" "$out.from"
 echo "$out: $kind"
