@@ -96,6 +96,21 @@ static size_t nearly_all(uint8_t *to, int creates, int annihilates)
     return record_of(to, 64, terms, n);
 }
 
+/* n different terms {|w}, w on 32 modes from `from` on */
+static size_t annihilating(uint8_t *to, unsigned from, size_t n)
+{
+    static struct term terms[TERMS];
+    for (size_t i = 0; i < n;) {
+        uint64_t w = (next() & 0xFFFFFFFF) << from;
+        size_t j = 0;
+        while (j < i && terms[j].ann != w)
+            j++;
+        if (j == i)
+            terms[i++] = (struct term){0, w, 1};
+    }
+    return record_of(to, 64, terms, n);
+}
+
 static double now(void)
 {
     struct timespec t;
@@ -226,6 +241,8 @@ int main(void)
     one_len = record_of(one, 10, diagonal, 835);
     memcpy(two, one, two_len = one_len);
     line("fermion_mul", "697,225 rows in a work of 2^24 bytes, many alike", cost(run_mul));
+    one_len = annihilating(one, 0, TERMS), two_len = annihilating(two, 32, 341);
+    line("fermion_mul", "698,368 rows, all different, a work of 2^24 bytes", cost(run_mul));
     one_len = record_of(one, 19, (struct term[]){{0, (1 << 19) - 1, 1}}, 1);
     two_len = record_of(two, 19, (struct term[]){{(1 << 19) - 1, 0, 1}}, 1);
     line("fermion_mul", "524,288 rows, all different, a work of 2^24 bytes", cost(run_mul));

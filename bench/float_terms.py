@@ -4,8 +4,8 @@
     python3 bench/float_terms.py
 
 It needs a C compiler (cc) and the library: the file that FERMION_LIB names, else target/native/libfermion.so, which
-tools/shared_object.sh makes. A term in four of those drawn takes the ket to the bra. It ends with 1 if an element of 2,048
-terms costs more than three times the call.
+tools/shared_object.sh makes. A term in four of those drawn takes the ket to the bra. It ends with 1 if an element of 256 or
+2,048 terms costs more than three times the call.
 """
 import ctypes
 import os
@@ -22,6 +22,7 @@ sys.path.insert(0, str(ROOT / "bindings" / "python"))
 import fermion  # noqa: E402
 
 LENGTHS = (16, 64, 256, 2048)
+LONG = 256  # from here on the limit holds on any machine; ctypes has its price a call, whatever the list
 MODES, BRA, KET = 16, 0b1111, 0b1111
 TURNS, SECONDS = 9, 0.02
 MOST = 3
@@ -122,8 +123,8 @@ def main():
     for with_complex, length, call, element in measured(LENGTHS):
         print(f"{'complex' if with_complex else 'real':7} {length:5} terms: the call {call:8.0f} ns, "
               f"FloatTerms.element {element:8.0f} ns, {element - call:5.0f} ns more, {element / call:.2f} times")
-        far |= length == max(LENGTHS) and element > MOST * call
-    print(f"at most {MOST} times at {max(LENGTHS)} terms: {'NO' if far else 'yes'}")
+        far |= length >= LONG and element > MOST * call
+    print(f"at most {MOST} times from {LONG} terms on: {'NO' if far else 'yes'}")
     return 1 if far else 0
 
 

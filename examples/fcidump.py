@@ -261,7 +261,7 @@ def hamiltonian(integrals, scale):
 
 def twice_sz(modes):
     """2 Sz: the electrons with spin up less those with spin down."""
-    return fermion.number(modes, *range(0, modes, 2)) - fermion.number(modes, *range(1, modes, 2))
+    return fermion.number(modes, range(0, modes, 2)) - fermion.number(modes, range(1, modes, 2))
 
 
 def four_s2(modes):

@@ -20,7 +20,8 @@
  *   means MALFORMED for the whole; then for each term in turn WORD_OUTSIDE, OUT_OF_ORDER, ZERO_COEFF; then TOO_HEAVY.
  *
  * - `out` holds the result in its first answer[3] bytes and zeros after them, `work` is all zero after every call. It
- *   does not matter what they held before. What is only read is never changed.
+ *   does not matter what they held before. What is only read is never changed; and nobody else changes it while the
+ *   call runs, no thread and no process: memory that a tenant can still write to is copied first.
  *
  * - A slice is a pointer and then a length in elements. Records, `out` and `work` may start at any address; what
  *   points to uint64_t, int64_t or double is aligned for it. The records of one call may be the same memory (A times

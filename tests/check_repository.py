@@ -59,6 +59,13 @@ def edits_say_what_they_are():
     return [path for path in glob.glob("crates/*/must-fail/*.edit") if text(path).startswith(("file:", "old:", "new:"))]
 
 
+def nothing_is_left_lying_in_the_root():
+    known = {".ci", ".gitignore", "LICENSE", "NOTICE", "README.md", "bench", "bindings", "crates", "crates.txt", "docs", "examples",
+             "include", "oracle", "tests", "tools"}
+    listed = subprocess.run(["git", "ls-files"], capture_output=True, text=True).stdout.split("\n")
+    return sorted({path.split("/")[0] for path in listed if path} - known)
+
+
 def the_readme_names_the_toolchain():
     version = subprocess.run(["rt", "version"], capture_output=True, text=True).stdout.strip()
     return [] if version and version in text("README.md") else [f"README.md does not have {version!r}"]
@@ -121,7 +128,8 @@ def layout_is_the_formatters():
 
 TESTS = [
     each_has_a_statement, each_is_in_promises, the_face_refuses_by_itself, the_header_is_the_face,
-    specs_hold_definitions_only, edits_say_what_they_are, the_readme_names_the_toolchain,
+    specs_hold_definitions_only, edits_say_what_they_are, nothing_is_left_lying_in_the_root,
+    the_readme_names_the_toolchain,
     the_readme_shows_what_its_commands_print, what_documents_once_said_wrongly_is_right, links_lead_somewhere,
     layout_is_the_formatters,
 ]

@@ -1,6 +1,6 @@
 #!/usr/bin/env bash
 # What include/fermion.h says of every function: the stack that it needs, null pointers with length 0, nothing in the library
-# that can be written to, nothing that it needs but memcpy, memset and the like, and no function that is not declared. On the
+# that can be written to, nothing that it needs but memcpy and memset, and no function that is not declared. On the
 # shared object of tools/shared_object.sh and on the archive; where the machine is no x86-64, the archive's code runs under
 # the toolchain's emulator.
 set -uo pipefail
@@ -75,8 +75,8 @@ is "the archive has the header's functions and no others" \
     "$(diff <(declared) <(nm -g --defined-only "$archive" | sed -n 's/^[0-9a-f]* T //p' | sort))"
 sections='(PROGBITS|NOBITS) .* 0*[1-9a-f][0-9a-f]* [0-9a-f]+ +[A-Z]*W' # that are not empty and can be written to
 for code in "$library" "$archive"; do
-    is "${code##*/} needs memcpy, memset and memmove at most" \
-        "$(nm -u "$code" | sed -n 's/^ *[Uw] //p' | grep -vE '^mem(cpy|set|move)(@.*)?$')"
+    is "${code##*/} needs memcpy and memset at most" \
+        "$(nm -u "$code" | sed -n 's/^ *[Uw] //p' | grep -vE '^mem(cpy|set)(@.*)?$')"
     is "${code##*/} has no data that can be written to" \
         "$(nm "$code" | grep -E ' [bBdDcC] ' | grep -vE ' (_DYNAMIC|_GLOBAL_OFFSET_TABLE_)$'
         readelf -SW "$code" | grep -E " $sections" | grep -vE ' \.got(\.plt)? ')"

@@ -21,6 +21,7 @@ need() { # COMMAND WHAT-FOR
 case ${1:-} in
 -h | --help) exec sed -n '2,/^set /{/^set /d; s/^# \{0,1\}//; p}' tools/shared_object.sh ;;
 esac
+need flock "it keeps two builds apart (util-linux)"
 need rt "it is the command of the Rattle toolchain, which proves and compiles the library (docs/INSTALL.md)"
 log=target/log/shared_object.out
 archive=target/staticlib/libfermion.a
@@ -40,11 +41,12 @@ stop_if_made() { # nothing has changed since OUT was made
     fi
 }
 stop_if_made # before anything is written, for a folder that can only be read
-if ! mkdir -p "$(dirname "$out")" target/log 2>/dev/null || ! : 2>/dev/null >>"$out.lock"; then
+lock=target/shared_object.lock # one for every OUT: they share the archive and the log
+if ! mkdir -p "$(dirname "$out")" target/log 2>/dev/null || [ ! -w "$(dirname "$out")" ] || ! : 2>/dev/null >>"$lock"; then
     say "the library is to be made, and $(dirname "$out") or target/ cannot be written to"
     exit 1
 fi
-exec 9>"$out.lock"
+exec 9>"$lock"
 flock 9 # two tests may ask for it at once
 stop_if_made
 

@@ -10,8 +10,8 @@ from __future__ import annotations
 
 import ctypes
 import operator
-import struct
 from array import array
+from numbers import Complex, Real
 from typing import TYPE_CHECKING, Any, Iterable, List, Optional, Sequence, Tuple, Union
 
 from ._types import Whole, whole
@@ -169,9 +169,19 @@ def as_words(numbers: Iterable[Whole], what: str) -> "array[int]":
 def as_float(number: Any, what: str, place: int) -> float:
     """The number, if it is a real one: `float` would read text too."""
     try:
-        return float(*struct.unpack("d", struct.pack("d", number)))
-    except struct.error:
-        raise TypeError(f"{what.format(place)} is {number!r}, not a real number") from None
+        if not has_complex([number]):
+            made: "array[float]" = array("d", [number])
+            return made[0]
+    except OverflowError:
+        raise OverflowError(f"{what.format(place)} is too large for a float") from None
+    except TypeError:
+        pass
+    raise TypeError(f"{what.format(place)} is {number!r}, not a real number")
+
+
+def has_complex(numbers: Iterable[Any]) -> bool:
+    """Whether one is a complex number by its type: of NumPy's a float would take the real part, and say nothing."""
+    return any(issubclass(kind, Complex) and not issubclass(kind, Real) for kind in set(map(type, numbers)))
 
 
 def as_floats(numbers: Iterable[float], what: str) -> "array[float]":
@@ -182,8 +192,10 @@ def as_floats(numbers: Iterable[float], what: str) -> "array[float]":
         return made
     listed = list(numbers)
     try:
+        if has_complex(listed):
+            raise TypeError("a complex number")
         made.extend(listed)
-    except TypeError:
+    except (TypeError, OverflowError):
         for place, number in enumerate(listed):
             as_float(number, what, place)
         raise

@@ -9,8 +9,8 @@ from ._buffers import Readable, Writable, as_floats, as_parts, as_word, as_words
 from ._face import call
 from ._matrix import projected, signed
 from ._record import Product, Record
-from ._types import Applied, Branches, Checked, Comparison, Term, Whole
-from ._work import HEADER, ROW, WORK_CEILING, adjoined, front, multiplied, rows_for, summed
+from ._types import TERM, Applied, Branches, Checked, Comparison, Term, Whole, parts
+from ._work import HEADER, ROW, WORK_CEILING, adjoined, front, multiplied, summed, with_rows
 
 
 def apply(cre: Whole, ann: Whole, ket: Whole) -> Optional[Applied]:
@@ -36,10 +36,15 @@ def mul_cmpnts(left: Tuple[Whole, Whole], right: Tuple[Whole, Whole], *, out: Op
     >>> [str(term) for term in mul_cmpnts((0, word(0)), (word(0), 0))]
     ['1 {|}', '-1 {0|0}']
     """
-    words = [(as_word(cre, "the creation word"), as_word(ann, "the annihilation word")) for cre, ann in (left, right)]
-    rows = rows_for("mul", _alone(*words[0]), _alone(*words[1]), ceiling) if out is None else out
-    length = call("mul_cmpnts", *words[0], *words[1], rows)[3]
-    return [Term(cre, ann, coeff) for ann, cre, coeff in struct.iter_unpack("<QQq", front(rows, length))]
+    pairs = (parts(left, TERM[:2], "the left term"), parts(right, TERM[:2], "the right term"))
+    words = [(as_word(cre, "the creation word"), as_word(ann, "the annihilation word")) for cre, ann in pairs]
+
+    def attempt(rows: Writable) -> List[Term]:
+        length = call("mul_cmpnts", *words[0], *words[1], rows)[3]
+        return [Term(cre, ann, coeff) for ann, cre, coeff in struct.iter_unpack("<QQq", front(rows, length))]
+    if out is not None:
+        return attempt(out)
+    return with_rows("mul", _alone(*words[0]), _alone(*words[1]), ceiling, attempt)
 
 
 def check(a: Readable) -> Checked:
@@ -244,8 +249,7 @@ def _alone(cre: int, ann: int) -> bytes:
 
 def _multiplied(name: str, a: Readable, b: Readable, work: Optional[Writable], out: Optional[Writable],
                 ceiling: Whole) -> Product:
-    record, count = multiplied(name, a, b, work, out, ceiling)
-    return Product(Record._written(record), count)
+    return Product._told(*multiplied(name, a, b, work, out, ceiling))
 
 
 def _words(m: Whole, cre: Iterable[Whole], ann: Iterable[Whole]) -> Tuple[object, ...]:

@@ -5,10 +5,9 @@ import ctypes
 import math
 from array import array
 from functools import partial
-from numbers import Complex, Real
 from typing import Any, Callable, Dict, Iterable, Iterator, List, Sequence, Tuple, Union
 
-from ._buffers import as_float, as_floats, as_parts, as_word, as_words, place_of
+from ._buffers import as_float, as_floats, as_parts, as_word, as_words, has_complex, place_of
 from ._face import bare
 from ._ladders import Products, mode_count, multiplied_out
 from ._types import TERM, Reason, Refusal, Whole, parts
@@ -49,7 +48,7 @@ class FloatTerms:
         self._lay_out(modes, cre, ann, coeff)
 
     @classmethod
-    def from_columns(cls, modes: Whole, cre: Iterable[Whole], ann: Iterable[Whole], coeff: Sequence[Number]) -> FloatTerms:
+    def from_columns(cls, modes: Whole, cre: Iterable[Whole], ann: Iterable[Whole], coeff: Iterable[Number]) -> FloatTerms:
         """The same from three lists. NumPy arrays of 64-bit words without a sign, of floats and of complex numbers are copied
         whole.
 
@@ -57,7 +56,8 @@ class FloatTerms:
         0.25j
         """
         made = cls.__new__(cls)
-        made._lay_out(modes, as_words(cre, "creation word {}"), as_words(ann, "annihilation word {}"), coeff)
+        listed = coeff if hasattr(coeff, "__len__") else list(coeff)  # it is gone through more than once
+        made._lay_out(modes, as_words(cre, "creation word {}"), as_words(ann, "annihilation word {}"), listed)
         return made
 
     @classmethod
@@ -137,7 +137,7 @@ class FloatTerms:
 
     def _lay_out(self, modes: Whole, cre: "array[int]", ann: "array[int]", coeff: Any) -> None:
         self._modes, self._cre, self._ann = mode_count(modes), cre, ann
-        self._complex = _has_complex(coeff)
+        self._complex = has_complex(coeff)
         self._parts = as_parts(coeff, "coefficient {}") if self._complex else (as_floats(coeff, "coefficient {}"),)
         self._fixed = [_U64(self._modes)]
         columns: List["array[Any]"] = [cre, ann, *self._parts]
@@ -168,10 +168,6 @@ class FloatTerms:
 _U64, _SIZE, _POINTER = ctypes.c_uint64.from_param, ctypes.c_size_t.from_param, ctypes.c_void_p.from_param
 
 
-def _has_complex(coeff: Any) -> bool:
-    return any(issubclass(kind, Complex) and not issubclass(kind, Real) for kind in set(map(type, coeff)))
-
-
 def _number(coeff: Any, what: str, place: int) -> Number:
     """A float or a complex number of what is one; text is neither."""
-    return complex(coeff) if _has_complex([coeff]) else as_float(coeff, what, place)
+    return complex(coeff) if has_complex([coeff]) else as_float(coeff, what, place)

@@ -2,9 +2,10 @@
 from __future__ import annotations
 
 import importlib
+import operator
 import struct
 from bisect import bisect_left
-from typing import Any, Iterable, Iterator, List, NamedTuple, Optional, Tuple, Union
+from typing import Any, Iterable, Iterator, List, Optional, Tuple, Union
 
 from ._buffers import Readable, as_word, as_words, copy_of
 from ._build import built
@@ -67,7 +68,7 @@ class Record:
         Traceback (most recent call last):
         TypeError: term 1: the coefficient is 1.5, not a whole number
         """
-        return cls(built(mode_count(modes), terms))
+        return Record(built(mode_count(modes), terms))
 
     @classmethod
     def ladders(cls, modes: Whole, ladders: Ladders, coeff: Whole = 1) -> Record:
@@ -171,6 +172,12 @@ class Record:
     def __buffer__(self, flags: int, /) -> memoryview:
         return memoryview(self._accepted)  # memoryview(record) calls this from Python 3.12 on
 
+    def __array__(self, dtype: Any = None, copy: Any = None) -> Any:
+        """NumPy takes a record for one thing, as it takes a number, and not for a list of its terms."""
+        made = importlib.import_module("numpy").empty((), dtype=object)
+        made[()] = self
+        return made
+
     def __eq__(self, other: object) -> bool:
         if not isinstance(other, Record):
             return NotImplemented
@@ -190,19 +197,19 @@ class Record:
 
     # Operators, each by the library's call
 
-    def __add__(self, other: Union[Operand, Whole]) -> Record:
+    def __add__(self, other: Union[Record, Whole]) -> Record:
         second = _operand(self, other)
         if second is None:
             return NotImplemented
         return Record._written(summed("add", self, second))
 
-    def __sub__(self, other: Union[Operand, Whole]) -> Record:
+    def __sub__(self, other: Union[Record, Whole]) -> Record:
         second = _operand(self, other)
         if second is None:
             return NotImplemented
         return Record._written(summed("sub", self, second))
 
-    def __mul__(self, other: Union[Operand, Whole]) -> Record:
+    def __mul__(self, other: Union[Record, Whole]) -> Record:
         second = _operand(self, other)
         if second is None:
             return NotImplemented
@@ -297,70 +304,58 @@ class Record:
         return tiled(self, self.modes, as_words(basis, "basis word {}"))
 
 
-class _Product(NamedTuple):
-    record: Record
-    branches: int
+class Product(Record):
+    """The record of a product, which also tells its branches: a work of 24 bytes for each was enough.
 
-
-class Product(_Product):
-    """The record of a product, and its branches: a work of 24 bytes for each is enough.
-
-    It is taken wherever a record is.
+    It is a record wherever it stands; `record` is that record alone.
 
     >>> a, b = Record.build(1, [(0, 1, 1)]), Record.build(1, [(1, 0, 1)])
-    >>> print(commutator(commutator(a, b), a).record, "and", commutator(a, b) + b)
-    2 {|0} and 1 {|} + 1 {0|} - 2 {0|0}
+    >>> answer = commutator(commutator(a, b), a)
+    >>> print(answer, "from", answer.branches, "branches, and", commutator(a, b) + b)
+    2 {|0} from 3 branches, and 1 {|} + 1 {0|} - 2 {0|0}
+    >>> answer == 2 * a == answer.record, len(answer)
+    (True, 1)
     """
 
-    __slots__ = ()
-    __array_ufunc__ = None
+    __slots__ = ("_branches",)
+    _branches: int
+
+    def __init__(self, record: Readable, branches: Whole) -> None:
+        super().__init__(record)
+        self._branches = whole(branches, "the branches")
+
+    @classmethod
+    def _told(cls, data: bytes, branches: int) -> Product:
+        """What the library answered."""
+        made = cls.__new__(cls)
+        made._accepted, made._branches = data, branches
+        return made
 
     @property
-    def _accepted(self) -> bytes:
-        return self.record._accepted
+    def record(self) -> Record:
+        """The record alone, with the same bytes."""
+        return Record._written(self._accepted)
 
-    def __bytes__(self) -> bytes:
-        return self.record._accepted
+    @property
+    def branches(self) -> int:
+        """The branches, over both orders for a commutator and an anticommutator."""
+        return self._branches
 
-    def __buffer__(self, flags: int, /) -> memoryview:
-        return self.record.data
+    def __reduce__(self) -> Tuple[object, ...]:
+        return Product, (self._accepted, self._branches)  # checked again where it arrives
 
-    # A tuple would append and repeat here.
-
-    def __add__(self, other: Any) -> Any:
-        return self.record + other
-
-    def __radd__(self, other: Any) -> Any:
-        return other + self.record
-
-    def __sub__(self, other: Any) -> Any:
-        return self.record - other
-
-    def __rsub__(self, other: Any) -> Any:
-        return other - self.record
-
-    def __mul__(self, other: Any) -> Any:
-        return self.record * other
-
-    def __rmul__(self, other: Any) -> Any:
-        return other * self.record
-
-    def __neg__(self) -> Record:
-        return -self.record
-
-    def __pow__(self, exponent: Whole) -> Record:
-        return self.record ** exponent
+    def __repr__(self) -> str:
+        return f"Product({self.record!r}, {self._branches})"
 
 
-Operand = Union[Record, Product]
-_operands = (Record, Product)
-
-
-def _operand(a: Record, other: Any) -> Optional[Operand]:
+def _operand(a: Record, other: Any) -> Optional[Record]:
     """What stands beside a record: another, or a whole number, which is the term {|} with this coefficient; else nothing."""
-    if isinstance(other, _operands):
+    if isinstance(other, Record):
         return other
-    return Record.build(a.modes, [(0, 0, other)]) if hasattr(type(other), "__index__") else None
+    try:
+        return Record.build(a.modes, [(0, 0, operator.index(other))])
+    except TypeError:
+        return None
 
 
 def _numpy() -> Any:

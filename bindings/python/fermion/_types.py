@@ -190,6 +190,8 @@ def modes(word: Whole) -> Iterator[int]:
     [0, 2]
     """
     held = whole(word, "the word")
+    if not 0 <= held < 1 << 64:
+        raise ValueError(f"the word is {held}, not a number of 64 bits without a sign")
     return (mode for mode in range(64) if held >> mode & 1)
 
 

@@ -1,11 +1,13 @@
 """What several calls have in common: the room for an output, and the memory that a product works in."""
 from __future__ import annotations
 
-from typing import Any, Optional, Tuple
+from typing import Any, Callable, Optional, Tuple, TypeVar
 
 from ._buffers import Readable, Writable, length_of
 from ._face import call
 from ._types import Reason, Refusal, Whole, whole
+
+T = TypeVar("T")
 
 MAX_MODES = 64
 MAX_TERMS = 2048
@@ -34,17 +36,22 @@ def adjoined(a: Readable, out: Optional[Writable] = None) -> bytes:
 def multiplied(name: str, a: Readable, b: Readable, work: Optional[Writable] = None, out: Optional[Writable] = None,
                ceiling: Whole = WORK_CEILING) -> Tuple[bytes, int]:
     """The record of a product, a commutator or an anticommutator, and its branches."""
-    rows: Any = rows_for(name, a, b, ceiling) if work is None else work
+    if work is not None:
+        return _called(name, a, b, work, out)
+    return with_rows(name, a, b, ceiling, lambda rows: _called(name, a, b, rows, out))
+
+
+def _called(name: str, a: Readable, b: Readable, rows: Any, out: Optional[Writable]) -> Tuple[bytes, int]:
     room = _room(out, HEADER + length_of(rows) // ROW * ROW)  # no more terms than rows
     answer = call(name, a, b, rows, room)
     return front(room, answer[3]), answer[4]
 
 
-def rows_for(name: str, a: Readable, b: Readable, ceiling: Whole) -> bytearray:
-    """Memory for exactly the rows that the call has; none at all where they are too many, so that it is refused.
+def with_rows(name: str, a: Readable, b: Readable, ceiling: Whole, attempt: Callable[[bytearray], T]) -> T:
+    """A call with memory for exactly the rows that it has; with none at all where they are too many, so that it is refused.
 
-    Both orders together may have more branches than can be counted, while a b alone has few: then it is given what nobody has
-    to ask for.
+    Both orders together may have more branches than can be counted, while a b alone has few: then it is tried with what nobody
+    has to ask for, and with four times as much as long as 7 is given and the caller's ceiling allows it.
     """
     most = max(0, whole(ceiling, "the ceiling"))
     try:
@@ -52,9 +59,20 @@ def rows_for(name: str, a: Readable, b: Readable, ceiling: Whole) -> bytearray:
     except Refusal as refusal:
         if refusal.number != Reason.ROWS_DO_NOT_FIT:
             raise
-        return bytearray(min(most, WORK_CEILING) if name == "mul" else 0)
+        return _growing(most, attempt) if name == "mul" else attempt(bytearray())
     needed = ROW * (forward if name == "mul" else forward + backward)
-    return bytearray(needed if needed <= most else 0)
+    return attempt(bytearray(needed if needed <= most else 0))
+
+
+def _growing(most: int, attempt: Callable[[bytearray], T]) -> T:
+    length = min(most, WORK_CEILING)
+    while True:
+        try:
+            return attempt(bytearray(length))
+        except Refusal as refusal:
+            if refusal.number != Reason.ROWS_DO_NOT_FIT or length == most:
+                raise
+        length = min(4 * length, most)
 
 
 def front(room: Any, length: int) -> bytes:

@@ -66,6 +66,11 @@ class Int64:
     __int__ = __index__
 
 
+def told(answer):
+    """The record of a product's answer, as a record alone, and its branches."""
+    return answer.record, answer.branches
+
+
 def _wrapping(name):
     def method(self, *others):
         if not all(hasattr(other, "__index__") for other in others):

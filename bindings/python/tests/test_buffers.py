@@ -8,7 +8,7 @@ import tracemalloc
 import unittest
 
 import fermion
-from common import EXAMPLE, Refused, needs_numpy, one
+from common import EXAMPLE, Refused, needs_numpy, one, told
 from fermion import Record, Refusal
 from fermion import _buffers
 
@@ -109,7 +109,8 @@ class Lent(unittest.TestCase):
         work, out = mmap.mmap(-1, 96), mmap.mmap(-1, 4096)
         work.write(b"\xff" * 96)
         out.write(b"\xff" * 4096)
-        self.assertEqual(fermion.commutator(one(2, (0,), (1,)), one(2, (1,), (0,)), work=work, out=out), (Record(EXAMPLE), 4))
+        answer = fermion.commutator(one(2, (0,), (1,)), one(2, (1,), (0,)), work=work, out=out)
+        self.assertEqual(told(answer), (Record(EXAMPLE), 4))
         self.assertEqual((work[:], out[:]), (bytes(96), EXAMPLE + bytes(4016)))
         self.assertEqual(fermion.mul_cmpnts((0, 1), (1, 0), out=out)[1].coeff, -1)
         work.close()

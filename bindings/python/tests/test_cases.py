@@ -4,7 +4,7 @@ import pickle
 import unittest
 
 import fermion
-from common import EXAMPLE, ROW, Refused, one, term
+from common import EXAMPLE, ROW, Refused, one, term, told
 from fermion import Applied, Comparison, Record, Term, word
 
 
@@ -15,6 +15,8 @@ class Words(unittest.TestCase):
         self.assertEqual(list(fermion.modes(2**63 + 1)), [0, 63])
         for mode in (-1, 64):
             self.assertRaises(ValueError, word, mode)
+        for wrong in (-1, 2**64):
+            self.assertRaises(ValueError, fermion.modes, wrong)
 
     def test_what_is_no_word_is_no_argument(self):
         for number in (-1, 2**64):
@@ -143,9 +145,9 @@ class Records(unittest.TestCase):
 class Operators(unittest.TestCase):
     def test_case_14(self):
         a, b = one(2, (0,), (1,)), one(2, (1,), (0,))
-        self.assertEqual(fermion.commutator(a, b), (Record(EXAMPLE), 4))
+        self.assertEqual(told(fermion.commutator(a, b)), (Record(EXAMPLE), 4))
         work, out = bytearray(b"\xff" * 96), bytearray(b"\xff" * 83)
-        self.assertEqual(fermion.commutator(a, b, work=work, out=out), (Record(EXAMPLE), 4))
+        self.assertEqual(told(fermion.commutator(a, b, work=work, out=out)), (Record(EXAMPLE), 4))
         self.assertEqual((work, out), (bytes(96), EXAMPLE + bytes(3)))
         for number, lengths in ((7, (95, 80)), (11, (96, 79)), (7, (0, 0))):
             work, out = (bytearray(b"\xff" * length) for length in lengths)
@@ -187,7 +189,7 @@ class Operators(unittest.TestCase):
             fermion.add(*many)
         self.assertEqual(len(fermion.add(many[0], many[0])), 1025)
 
-    def test_work_grows_to_the_ceiling(self):
+    def test_work_as_the_branches_need_it_up_to_the_ceiling(self):
         eleven = (1 << 11) - 1
         a, b = Record.build(11, [(0, eleven, 1)]), Record.build(11, [(eleven, 0, 1)])
         product = fermion.mul(a, b)
@@ -198,7 +200,7 @@ class Operators(unittest.TestCase):
         squares = fermion.mul(product.record, one(11, (), ())).record
         self.assertEqual(squares, product.record)
         wide = [Record.build(13, [(0, 2**13 - 1, 1)]), Record.build(13, [(2**13 - 1, 0, 1)])]
-        with Refused(self, 10, 0, 0):  # 8,192 branches: more than the first work holds
+        with Refused(self, 10, 0, 0):  # 8,192 branches
             fermion.mul(*wide)
 
     def test_own_memory_is_not_lent_twice(self):

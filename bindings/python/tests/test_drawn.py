@@ -5,6 +5,8 @@ import sys
 import unittest
 from pathlib import Path
 
+from common import told
+
 import fermion
 from fermion import FloatTerms, Record, Refusal, Term
 
@@ -132,10 +134,11 @@ class Drawn(unittest.TestCase):
                 function, call = getattr(fermion, name), getattr(records, name)
                 value = lambda it: (Record(in_out(it)), it.numbers[4])
                 answer = call(a, b, 24 << 14, fermion.MAX_BYTES)
-                self.assertEqual(outcome(function, a, b), expected(answer, value))
+                both = lambda *args, **lent: told(function(*args, **lent))
+                self.assertEqual(outcome(both, a, b), expected(answer, value))
                 work, out = (self.memory(self.near(length)) for length in (24 * answer.numbers[4], answer.numbers[3]))
                 answer = call(a, b, len(work), len(out))
-                self.assertEqual(outcome(function, a, b, work=work, out=out), expected(answer, value))
+                self.assertEqual(outcome(both, a, b, work=work, out=out), expected(answer, value))
                 self.assertEqual((work, out), answer.lent)
 
     def wide_pair(self):

@@ -1,6 +1,8 @@
 """Faults that were there once: numbers that wrap, a folder near the root, nested products, types, memory nobody asked for."""
+import copy
 import importlib
 import os
+import pickle
 import shutil
 import subprocess
 import sys
@@ -11,7 +13,7 @@ from pathlib import Path
 from unittest import mock
 
 import fermion
-from common import ROW, Int64, Refused, branching, needs_numpy, one
+from common import ROW, Int64, Refused, branching, needs_numpy, one, told
 from fermion import Record, word
 from fermion import _face
 
@@ -53,7 +55,7 @@ class WholeNumbers(unittest.TestCase):
         with Refused(self, 9, 0, 0):
             Record.build(1, [(1, 1, int64(2**62))] * 4)
         self.assertEqual(word(int64(63)), 2**63)
-        self.assertEqual(list(fermion.modes(int64(-2**63 + 1)))[:1], [0])
+        self.assertEqual(list(fermion.modes(int64(2**62 + 1))), [0, 62])
         plain = Record.build(63, [(2**62, 5, -7), (2**62, 5, -1)])
         self.assertEqual(Record.build(int64(63), [(int64(2**62), int64(5), int64(-7)), (int64(2**62), 5, int64(-1))]), plain)
         self.assertEqual(plain[int64(2**62), int64(5)], -8)
@@ -190,6 +192,21 @@ class Nested(unittest.TestCase):
         self.assertTrue(fermion.compare(inner, inner.record).equal)
         self.assertEqual(fermion.branches(inner, c), fermion.branches(inner.record, c))
 
+    def test_an_answer_is_a_record(self):
+        a, b = one(2, (0,), (1,)), one(2, (1,), (0,))
+        commutator = fermion.commutator
+        answer = commutator(a, b)
+        self.assertTrue(answer == a.commutator(b) == answer and not answer != answer.record)
+        self.assertEqual({answer, answer.record}, {a.commutator(b)})
+        self.assertEqual((len(answer), bool(commutator(a, a)), len(commutator(a, a))), (2, False, 0))
+        self.assertEqual(list(answer), [(1, 1, 1), (2, 2, -1)])
+        self.assertEqual((answer[1, 1], answer[2, 2], answer.modes, answer.weight), (1, -1, 2, 2))
+        self.assertEqual((answer.adjoint(), answer.matrix([1, 2])), (answer.record, [[1, 0], [0, -1]]))
+        self.assertEqual(str(answer), "1 {0|0} - 1 {1|1}")
+        self.assertIs(type(answer.record), Record)
+        for again in (pickle.loads(pickle.dumps(answer)), copy.copy(answer), copy.deepcopy(answer), eval(repr(answer), vars(fermion))):
+            self.assertEqual((type(again), again, again.branches), (fermion.Product, answer, 4))
+
     def test_operators_with_an_answer_on_either_side(self):
         a, b = one(1, (), (0,)), one(1, (0,), ())
         ab, ba = fermion.mul(a, b), fermion.mul(b, a)
@@ -298,11 +315,22 @@ class Memory(unittest.TestCase):
     def test_few_branches_whose_other_order_has_too_many_to_count(self):
         annihilate, create = branching(64)
         full = 2**64 - 1
-        self.assertEqual(fermion.mul(create, annihilate), (Record.build(64, [(full, full, 1)]), 1))
+        self.assertEqual(told(fermion.mul(create, annihilate)), (Record.build(64, [(full, full, 1)]), 1))
         self.assertEqual(fermion.mul_cmpnts((full, 0), (0, full)), [(full, full, 1)])
         for call in (fermion.commutator, fermion.anticommutator):
             with Refused(self, 7, 0, 0):
                 call(create, annihilate)
+
+    def test_a_ceiling_of_the_callers_where_the_other_order_cannot_be_counted(self):
+        full, subsets = 2**64 - 1, [(s, s, 1) for s in range(1, 1024)]
+        a, b = Record.build(64, [*subsets, (full, 0, 1)]), Record.build(64, [*subsets, (0, full, 1)])
+        with Refused(self, 7, 0, 0):
+            fermion.branches(a, b)
+        with Refused(self, 7, 0, 0):  # 1,023 x 1,023 pairs and more: 25 MB
+            fermion.mul(a, b)
+        product = fermion.mul(a, b, ceiling=1 << 25)
+        # {s|s} times {t|t} has one row, {s|s} times {|full} and {full|} times {t|t} have none, {full|} times {|full} has one
+        self.assertEqual(product.branches, 1023**2 + 1)
 
 
 if __name__ == "__main__":

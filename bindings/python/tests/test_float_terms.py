@@ -11,6 +11,7 @@ from decimal import Decimal
 from fractions import Fraction
 from pathlib import Path
 
+import fermion
 from common import Refused, needs_numpy
 from fermion import FloatTerms, Record, word
 
@@ -136,13 +137,32 @@ class Terms(unittest.TestCase):
             thread.join()
         self.assertEqual(wrong, [])
 
+    @needs_numpy
+    def test_a_complex_number_is_no_real_one(self):
+        numpy = importlib.import_module("numpy")
+        for coeff in (numpy.array([1 + 2j]), [numpy.complex128(1 + 2j)], [1 + 2j], numpy.array([1 + 0j])):
+            with self.assertRaisesRegex(TypeError, "coefficient 0 is .*, not a real number"):
+                fermion.mat_elem_real(2, [1], [1], coeff, 1, 1)
+            self.assertEqual(fermion.mat_elem_complex(2, [1], [1], coeff, 1, 1), coeff[0])
+
+    def test_numbers_too_large_for_a_float_are_named(self):
+        for wrong in (lambda: fermion.FloatTerms(2, [(0, 0, 10**400)]),
+                      lambda: fermion.FloatTerms.from_columns(2, [0], [0], [10**400])):
+            self.assertRaisesRegex(OverflowError, "coefficient (is|0 is) too large for a float", wrong)
+
+    def test_columns_may_be_iterators(self):
+        terms = fermion.FloatTerms.from_columns(2, iter([1, 1]), iter([1, 2]), (x for x in [0.5, 0.25]))
+        self.assertEqual((terms.element(1, 1), terms.element(1, 2)), (0.5, 0.25))
+        with Refused(self, 1, 1, 0):
+            fermion.FloatTerms.from_columns(2, [], [], (x for x in [1.0]))
+
     def test_an_element_costs_at_most_three_times_the_call_in_c(self):
         if not (shutil.which("cc") or shutil.which("gcc")):
             self.skipTest("there is no C compiler, with which the call is timed")
         spec = importlib.util.spec_from_file_location("float_terms", BENCH)
         bench = importlib.util.module_from_spec(spec)
         spec.loader.exec_module(bench)
-        for with_complex, length, call, element in bench.measured([2048]):
+        for with_complex, length, call, element in bench.measured([256, 2048]):
             self.assertLessEqual(element, 3 * call, (with_complex, length))
 
 

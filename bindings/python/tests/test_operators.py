@@ -106,6 +106,18 @@ class Arithmetic(unittest.TestCase):
         self.assertEqual((numpy.int64(3) * answer, answer * numpy.int64(3)), (3 * self.n0,) * 2)
 
 
+    @needs_numpy
+    def test_numpy_takes_a_record_for_one_thing(self):
+        numpy = importlib.import_module("numpy")
+        both = numpy.array([self.n0, self.hop], dtype=object)
+        self.assertEqual((both.shape, both[1]), ((2,), self.hop))
+        self.assertEqual(numpy.sum([self.n0, self.n0, self.hop]), 2 * self.n0 + self.hop)
+        self.assertEqual(numpy.dot([2, 3], [self.n0, self.hop]), 2 * self.n0 + 3 * self.hop)
+        self.assertEqual(numpy.sum([fermion.mul(self.n0, self.n0)] * 2), 2 * self.n0)
+        self.assertRaises((TypeError, ValueError), lambda: numpy.array(self.n0, dtype=float))
+        self.assertRaises(TypeError, lambda: self.n0 * numpy.array([1, 2]))
+
+
 class Ladders(unittest.TestCase):
     def test_signs_are_kept(self):
         self.assertEqual(Record.ladders(2, ((0, 1), (1, 1))), one(2, (0, 1), ()))
@@ -156,8 +168,9 @@ class Ladders(unittest.TestCase):
 
     def test_ready_made(self):
         self.assertEqual(number(3), Record.build(3, [(1, 1, 1), (2, 2, 1), (4, 4, 1)]))
-        self.assertEqual(number(64, 63, 0), Record.build(64, [(1, 1, 1), (2**63, 2**63, 1)]))
-        self.assertEqual(number(3, 2, 2), one(3, (2,), (2,)))
+        self.assertEqual(number(64, [63, 0]), Record.build(64, [(1, 1, 1), (2**63, 2**63, 1)]))
+        self.assertEqual(number(3, [2, 2]), one(3, (2,), (2,)))
+        self.assertEqual((number(3, 2), number(3, []), number(3, (p for p in ()))), (one(3, (2,), (2,)), 0 * number(3), 0 * number(3)))
         self.assertEqual(hopping(3, 2, 0), one(3, (2,), (0,)) + one(3, (0,), (2,)))
         self.assertEqual(hopping(3, 1, 1), one(3, (1,), (1,), 2))
         self.assertEqual(interaction(3, 2, 0), one(3, (0, 2), (0, 2), -1))
@@ -224,6 +237,7 @@ class Reading(unittest.TestCase):
     def test_the_bytes(self):
         self.assertEqual(self.record.data, bytes(self.record))
         self.assertTrue(self.record.data.readonly)
+        self.assertRaises(TypeError, lambda: self.record.data.cast("B").__setitem__(0, 1))
         self.assertIs(self.record.data.obj, bytes(self.record))
         self.assertEqual(self.record.__buffer__(0), bytes(self.record))
         self.assertIs(bytes(Record(EXAMPLE)), EXAMPLE)
@@ -233,7 +247,7 @@ class Reading(unittest.TestCase):
         self.assertEqual(memoryview(self.record), bytes(self.record))
         self.assertTrue(memoryview(self.record).readonly)
         self.assertEqual(memoryview(fermion.add(self.record, self.record)), bytes(2 * self.record))
-        self.assertRaises(BufferError, lambda: memoryview(self.record).cast("B").__setitem__(0, 1))
+        self.assertRaises(TypeError, lambda: memoryview(self.record).cast("B").__setitem__(0, 1))
 
 
 class Matrices(unittest.TestCase):
