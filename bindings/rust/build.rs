@@ -14,20 +14,34 @@ fn main() {
     println!("cargo:rerun-if-env-changed=FERMION_LIB_DIR");
     let here = PathBuf::from(env::var_os("CARGO_MANIFEST_DIR").unwrap());
     let out = PathBuf::from(env::var_os("OUT_DIR").unwrap());
-    let folder = folder(env::var_os("FERMION_LIB_DIR"), &here);
-    match library(&folder, &env::var("CARGO_CFG_TARGET_ARCH").unwrap()) {
-        Ok(library) => link(&library, &folder, &out),
+    let found = folder(env::var_os("FERMION_LIB_DIR"), &here).and_then(|folder| {
+        let library = library(&folder, &env::var("CARGO_CFG_TARGET_ARCH").unwrap())?;
+        Ok((library, folder))
+    });
+    match found {
+        Ok((library, folder)) => link(&library, &folder, &out),
         Err(sentence) => panic!("{sentence}"),
     }
 }
 
 /// The folder that is named, else that of the installation whose crate this is, else that of the repository.
-pub fn folder(named: Option<OsString>, here: &Path) -> PathBuf {
-    match named.filter(|named| !named.is_empty()) {
-        Some(named) => PathBuf::from(named),
-        None if here.ends_with("share/fermion/rust") => here.join("../../../lib"),
-        None => here.join("../../target/native"),
+pub fn folder(named: Option<OsString>, here: &Path) -> Result<PathBuf, String> {
+    match named.filter(|named| !named.is_empty()).map(PathBuf::from) {
+        Some(named) if named.is_absolute() => Ok(named),
+        Some(named) => Err(relative(&named, here)),
+        None if here.ends_with("share/fermion/rust") => Ok(here.join("../../../lib")),
+        None => Ok(here.join("../../target/native")),
     }
+}
+
+/// What is said of a relative path. It is not followed: from here it may lead to another library than the one that is meant.
+fn relative(named: &Path, here: &Path) -> String {
+    format!(
+        "FERMION_LIB_DIR is {}, a relative path, and must be an absolute one: cargo runs this script in {}, not in the \
+         folder that cargo was started in",
+        named.display(),
+        here.display()
+    )
 }
 
 #[derive(Debug, PartialEq)]

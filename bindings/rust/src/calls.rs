@@ -118,13 +118,20 @@ pub fn mul_cmpnts(left: (u64, u64), right: (u64, u64)) -> Result<Vec<Term>, Refu
 }
 
 /// [`mul_cmpnts`] with a ceiling of the caller's, in bytes, for its rows, in place of [`WORK_CEILING`].
+///
+/// Where the system does not give the memory for the rows, or for the terms, it is refused with 7 as well.
 pub fn mul_cmpnts_within(left: (u64, u64), right: (u64, u64), ceiling: usize) -> Result<Vec<Term>, Refusal> {
     let rows = match branches(&alone(left)?, &alone(right)?) {
         Ok(counts) => fitting(counts.forward, ceiling),
         // 59 modes or more branch in one of the two orders. No mode branches in both, so at most 5 do in the other.
         Err(_) => (1 << 5).min(ceiling / ROW),
     };
-    Ok(mul_cmpnts_into(left, right, &mut vec![0; ROW * rows])?.collect())
+    let (mut out, mut terms) = (zeros(ROW * rows), Vec::new());
+    if terms.try_reserve_exact(rows).is_err() {
+        out.clear(); // no room for the terms: then none for the rows either, and the library says 7
+    }
+    terms.extend(mul_cmpnts_into(left, right, &mut out)?);
+    Ok(terms)
 }
 
 /// [`mul_cmpnts`] with rows in memory of the caller's, which is zero past them. Refusal 7: it is too short.
@@ -244,7 +251,12 @@ pub fn mul(a: &(impl AsRef<[u8]> + ?Sized), b: &(impl AsRef<[u8]> + ?Sized)) -> 
 /// [`mul`] with a ceiling of the caller's, in bytes, for the work, in place of [`WORK_CEILING`].
 ///
 /// It takes exactly the work that it needs, or none if that is above the ceiling. Only where [`branches`] is refused with 7,
-/// which may be for b a alone, it takes the ceiling, or [`WORK_CEILING`] if that is less, and more does not help.
+/// which may be for b a alone, it does not know what it needs: then it tries with [`WORK_CEILING`], or the ceiling if that
+/// is less, and while that is too little with four times as much, at last with the ceiling itself. A product a b that has
+/// too many branches itself is then refused only after the last try.
+///
+/// Where the system does not give the memory, it is refused with 7 (or 8, which comes first), as for one above the ceiling.
+/// Some systems promise more than they have, and end the process when it is used: a ceiling below what there is prevents it.
 ///
 /// ```
 /// use fermion::{branches, mul_within, Reason, Record};
@@ -301,6 +313,8 @@ pub fn commutator(
 }
 
 /// [`commutator`] with a ceiling of the caller's, in bytes, for the work, in place of [`WORK_CEILING`].
+///
+/// Where the system does not give the memory, it is refused as [`mul_within`] is.
 pub fn commutator_within(
     a: &(impl AsRef<[u8]> + ?Sized),
     b: &(impl AsRef<[u8]> + ?Sized),
@@ -338,6 +352,8 @@ pub fn anticommutator(
 }
 
 /// [`anticommutator`] with a ceiling of the caller's, in bytes, for the work, in place of [`WORK_CEILING`].
+///
+/// Where the system does not give the memory, it is refused as [`mul_within`] is.
 pub fn anticommutator_within(
     a: &(impl AsRef<[u8]> + ?Sized),
     b: &(impl AsRef<[u8]> + ?Sized),
@@ -552,23 +568,48 @@ fn multiplied(
     b: &[u8],
     ceiling: usize,
 ) -> Result<Product<'static>, Refusal> {
-    let rows = work_rows(orders, a, b, ceiling)?;
+    match (branches(a, b), orders) {
+        (Ok(counts), Orders::Forward) => multiplied_with(call, a, b, fitting(counts.forward, ceiling)),
+        (Ok(counts), Orders::Both) => multiplied_with(call, a, b, fitting(counts.both(), ceiling)),
+        (Err(refusal), _) if refusal.reason() != Some(Reason::RowsDoNotFit) => Err(refusal),
+        // b a may be what has too many: a b, of which the count is not told, may still fit.
+        (Err(_), Orders::Forward) => multiplied_by_trying(call, a, b, ceiling),
+        (Err(_), Orders::Both) => multiplied_with(call, a, b, 0),
+    }
+}
+
+/// With more and more work up to the ceiling, so that what needs little does not take all that it may.
+fn multiplied_by_trying(call: Multiplies, a: &[u8], b: &[u8], ceiling: usize) -> Result<Product<'static>, Refusal> {
+    let mut bytes = ceiling.min(WORK_CEILING);
+    loop {
+        match multiplied_with(call, a, b, bytes / ROW) {
+            Err(refusal) if refusal.reason() == Some(Reason::RowsDoNotFit) && bytes < ceiling => {
+                bytes = bytes.saturating_mul(4).min(ceiling);
+            }
+            answer => return answer,
+        }
+    }
+}
+
+/// With work for as many rows. Where they are 0, or there is no memory for them, the library says 8 or 7, in its order.
+fn multiplied_with(call: Multiplies, a: &[u8], b: &[u8], rows: usize) -> Result<Product<'static>, Refusal> {
     // No result has more terms than rows.
-    let (mut work, mut out) = (vec![0; ROW * rows], vec![0; HEADER + ROW * rows.min(MAX_TERMS)]);
+    let (mut work, mut out) = (zeros(ROW * rows), vec![0; HEADER + ROW * rows.min(MAX_TERMS)]);
     let answer = call.call(a, b, &mut work, &mut out)?;
     Ok(Product { record: record_in(out, answer[3]), branches: answer[4] })
 }
 
-/// The rows that a product is lent. Where they would not fit there are none, and the library then says 8 or 7, in its order.
-fn work_rows(orders: Orders, a: &[u8], b: &[u8], ceiling: usize) -> Result<usize, Refusal> {
-    match (branches(a, b), orders) {
-        (Ok(counts), Orders::Forward) => Ok(fitting(counts.forward, ceiling)),
-        (Ok(counts), Orders::Both) => Ok(fitting(counts.both(), ceiling)),
-        (Err(refusal), _) if refusal.reason() != Some(Reason::RowsDoNotFit) => Err(refusal),
-        // b a may be what has too many: a b, of which the count is not told, may still fit.
-        (Err(_), Orders::Forward) => Ok(ceiling.min(WORK_CEILING) / ROW),
-        (Err(_), Orders::Both) => Ok(0),
+/// As many bytes, or none where the system does not give them: `vec![0; length]` would end the process.
+fn zeros(length: usize) -> Vec<u8> {
+    const BLOCK: [u8; 4096] = [0; 4096];
+    let mut bytes = Vec::new();
+    if bytes.try_reserve_exact(length).is_ok() {
+        // By blocks, because `resize` goes byte by byte in a build without optimisation: 1 s for 200 MB, and not 0.06 s.
+        while bytes.len() < length {
+            bytes.extend_from_slice(&BLOCK[..BLOCK.len().min(length - bytes.len())]);
+        }
     }
+    bytes
 }
 
 /// As many rows if they fit under the ceiling, else none.

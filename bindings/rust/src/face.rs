@@ -151,6 +151,7 @@ impl Sums {
 }
 
 /// Reads two records and writes one, with work.
+#[derive(Clone, Copy)]
 pub(crate) struct Multiplies(unsafe extern "C" fn(Bytes, usize, Bytes, usize, Lent, usize, Lent, usize, Numbers));
 
 pub(crate) const MUL: Multiplies = Multiplies(fermion_mul);

@@ -23,11 +23,22 @@ fn holding(name: &str, files: &[&str]) -> PathBuf {
 fn a_folder_that_is_named_comes_first() {
     let (installed, repository) = (Path::new("/opt/f/share/fermion/rust"), Path::new("/home/f/bindings/rust"));
     for here in [installed, repository] {
-        assert_eq!(folder(Some("/elsewhere".into()), here), Path::new("/elsewhere"));
+        assert_eq!(folder(Some("/elsewhere".into()), here), Ok("/elsewhere".into()));
     }
     assert_eq!(folder(Some("".into()), installed), folder(None, installed));
-    assert_eq!(folder(None, installed), Path::new("/opt/f/share/fermion/rust/../../../lib"));
-    assert_eq!(folder(None, repository), Path::new("/home/f/bindings/rust/../../target/native"));
+    assert_eq!(folder(None, installed), Ok("/opt/f/share/fermion/rust/../../../lib".into()));
+    assert_eq!(folder(None, repository), Ok("/home/f/bindings/rust/../../target/native".into()));
+}
+
+#[test]
+fn of_a_relative_path_that_is_said_first() {
+    // "src" is there, seen from the folder that cargo runs this test and the build script in: it is refused all the same.
+    for named in ["lib", "./lib", "../lib", "src"] {
+        let sentence = folder(Some(named.into()), Path::new("/opt/f/share/fermion/rust")).unwrap_err();
+        let start = format!("FERMION_LIB_DIR is {named}, a relative path, and must be an absolute one: cargo runs");
+        assert!(sentence.starts_with(&start), "{sentence}");
+        assert!(sentence.contains(" in /opt/f/share/fermion/rust, "), "{sentence}");
+    }
 }
 
 #[test]

@@ -1,8 +1,10 @@
-//! How much memory a call takes by itself: counted by an allocator that remembers the largest request of each thread.
+//! How much memory a call takes by itself, and what it does where there is none: told by an allocator that remembers the
+//! largest request of each thread and gives each only so much.
 mod common;
 
 use std::alloc::{GlobalAlloc, Layout, System};
 use std::cell::Cell;
+use std::ptr::null_mut;
 use std::time::{Duration, Instant};
 
 use common::{one, refusal};
@@ -15,32 +17,58 @@ static COUNTING: Counting = Counting;
 
 thread_local! {
     static LARGEST: Cell<usize> = const { Cell::new(0) };
+    /// What is left to give: less than 24 * 2^40, so that the system, which may promise that, is not asked for it.
+    static LEFT: Cell<usize> = const { Cell::new(1 << 40) };
 }
 
-fn note(size: usize) {
+/// Remembers a request, and whether there is so much left: then it is taken off.
+fn given(size: usize) -> bool {
     LARGEST.set(LARGEST.get().max(size));
+    LEFT.get().checked_sub(size).map(|left| LEFT.set(left)).is_some()
 }
 
-// SAFETY: every request goes on to the system's allocator as it is.
+fn taken_back(size: usize) {
+    LEFT.set(LEFT.get().saturating_add(size));
+}
+
+// SAFETY: every request goes on to the system's allocator as it is, or is answered with null, as where there is no memory.
 unsafe impl GlobalAlloc for Counting {
     unsafe fn alloc(&self, layout: Layout) -> *mut u8 {
-        note(layout.size());
-        System.alloc(layout)
+        if given(layout.size()) {
+            System.alloc(layout)
+        } else {
+            null_mut()
+        }
     }
 
     unsafe fn alloc_zeroed(&self, layout: Layout) -> *mut u8 {
-        note(layout.size());
-        System.alloc_zeroed(layout)
+        if given(layout.size()) {
+            System.alloc_zeroed(layout)
+        } else {
+            null_mut()
+        }
     }
 
     unsafe fn realloc(&self, at: *mut u8, layout: Layout, size: usize) -> *mut u8 {
-        note(size);
+        if !given(size) {
+            return null_mut();
+        }
+        taken_back(layout.size());
         System.realloc(at, layout, size)
     }
 
     unsafe fn dealloc(&self, at: *mut u8, layout: Layout) {
+        taken_back(layout.size());
         System.dealloc(at, layout)
     }
+}
+
+/// What a call answers that is given no more than so many bytes, and 2^16 for all that is small.
+fn given_only<T>(bytes: usize, call: impl FnOnce() -> T) -> T {
+    let before = LEFT.replace(bytes + (1 << 16));
+    let answer = call();
+    LEFT.set(before);
+    answer
 }
 
 /// What a call answers, and the largest piece of memory that it asked for.
@@ -148,4 +176,65 @@ fn rows_fit_whatever_the_other_order_has() {
     assert_eq!(refusal(fermion::mul_cmpnts_within((many, few), (few, many), 32 * 24 - 1)), (7, 0, 0));
     assert_eq!(refusal(fermion::mul_cmpnts((few, many), (many, few))), (7, 0, 0));
     assert_eq!(fermion::mul(&one(64, many, few, 1), &one(64, few, many, 1)).unwrap().branches, 32);
+}
+
+/// a = {S|S} for S = 1, .., n and {0..63|}, b = the same and {|0..63}. a b has n^2 + 1 branches, b a more than 2^64.
+fn untold(n: u64) -> (Record<'static>, Record<'static>) {
+    let and = |cre, ann| Record::build(64, (1..=n).map(|s| (s, s, 1)).chain([(cre, ann, 1)])).unwrap();
+    (and(u64::MAX, 0), and(0, u64::MAX))
+}
+
+#[test]
+fn a_need_that_is_not_told_is_found_up_to_the_ceiling() {
+    let (a, b) = untold(2047);
+    let needed = 24 * 4_190_210; // 100,565,040 bytes
+    assert_eq!(refusal(fermion::branches(&a, &b)), (7, 0, 0));
+    let (answer, taken) = largest(|| fermion::mul(&a, &b));
+    assert_eq!((refusal(answer), taken / 24), ((7, 0, 0), WORK_CEILING / 24));
+    let (answer, taken) = largest(|| fermion::mul_within(&a, &b, needed - 1));
+    assert_eq!((refusal(answer), taken), ((7, 0, 0), needed - 24));
+    let (answer, taken) = largest(|| fermion::mul_within(&a, &b, needed));
+    let product = answer.unwrap();
+    assert_eq!((product.branches, product.record.len(), taken), (4_190_210, 2048, needed));
+}
+
+/// Four times as much each time: 2^24, 2^26 and 2^28 bytes, and not the 2^30 that it may take.
+#[test]
+fn a_need_that_is_not_told_does_not_take_the_whole_ceiling() {
+    for (n, last) in [(500, 1 << 24), (1024, 1 << 26), (2047, 1 << 28)] {
+        let (a, b) = untold(n);
+        let (answer, taken) = largest(|| fermion::mul_within(&a, &b, 1 << 30));
+        assert_eq!((answer.unwrap().branches, taken / 24), (n * n + 1, last / 24));
+    }
+}
+
+type Within = fn(&Record<'static>, &Record<'static>, usize) -> Result<Product<'static>, Refusal>;
+const CALLS_WITHIN: [Within; 3] = [fermion::mul_within, fermion::commutator_within, fermion::anticommutator_within];
+
+/// 40 modes branch: 26,388,279,066,624 bytes or more, which this allocator does not give. The process goes on.
+#[test]
+fn work_that_is_not_given_is_a_refusal() {
+    for (coeff, number) in [(1, 7), (1 << 31, 8)] {
+        let (a, b) = ladders(40, coeff);
+        for call in CALLS_WITHIN {
+            let (answer, asked) = largest(|| call(&a, &b, usize::MAX));
+            assert_eq!(refusal(answer), (number, 0, 0));
+            assert!(asked >= 24 << 40, "{asked}");
+        }
+    }
+    // Here the need is not told: 2^24 and 2^26 bytes are given, and are too little; 2^28 are not given.
+    let (a, b) = untold(2047);
+    assert_eq!(refusal(given_only(1 << 27, || fermion::mul_within(&a, &b, usize::MAX))), (7, 0, 0));
+}
+
+#[test]
+fn rows_that_are_not_given_are_a_refusal() {
+    let all = (1 << 40) - 1;
+    let (answer, asked) = largest(|| fermion::mul_cmpnts_within((0, all), (all, 0), usize::MAX));
+    assert_eq!((refusal(answer), asked), ((7, 0, 0), 24 << 40));
+    // The terms handed back take as much as the rows: where only one of the two is given, the process goes on as well.
+    let (all, rows) = ((1 << 16) - 1, 24 << 16);
+    let within = || fermion::mul_cmpnts_within((0, all), (all, 0), usize::MAX);
+    assert_eq!(given_only(2 * rows, within).unwrap().len(), 1 << 16);
+    assert_eq!(refusal(given_only(rows, within)), (7, 0, 0));
 }

@@ -96,6 +96,18 @@ fn the_example_is_that_of_the_document() {
     assert_eq!(Record::build(2, [(1, 1, 1), (2, 2, -1)]).unwrap().as_bytes(), bytes);
 }
 
+/// The page is installed too, without the scripts of the repository.
+#[test]
+fn the_front_page_asks_for_scripts_only_where_it_speaks_of_the_repository() {
+    let page = text("bindings/rust/README.md");
+    let (for_users, for_the_repository) = page.split_once("\n## Tests\n").unwrap();
+    for block in for_users.split("```").skip(1).step_by(2) {
+        assert!(!block.contains("tools/") && !block.contains("tests/"), "{block}");
+    }
+    assert!(for_users.contains("repository's: an installation does not have them."));
+    assert!(for_the_repository.starts_with("\nThey are in the repository, not in an installation."));
+}
+
 #[test]
 fn every_function_of_the_header_is_bound() {
     let (header, face, calls) =
