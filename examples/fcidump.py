@@ -3,6 +3,7 @@
 
     python3 examples/fcidump.py [FILE..]    what each file holds, and how its Hamiltonian fits into a record; without names,
                                             the files of examples/molecules
+    python3 examples/fcidump.py --help      this text
 
 An FCIDUMP (P. J. Knowles and N. C. Handy, Computer Physics Communications 54 (1989) 75) has a header, &FCI NORB= NELEC=
 MS2= ORBSYM= ISYM= &END, and then a line for each integral over real orbitals, its value and four indices that count from 1:
@@ -14,6 +15,7 @@ Orbital p, counted from 0, is mode 2 p with spin up and mode 2 p + 1 with spin d
 """
 import glob
 import math
+import operator
 import os
 import re
 import shutil
@@ -55,11 +57,20 @@ class Integrals(NamedTuple):
     def scaled(self, scale):
         """The integrals in units of 1/scale hartree, rounded to whole numbers. Each spatial integral is rounded once, so
         that equal ones stay equal, and spin symmetry stays exact."""
-        whole = [{key: round(value * scale) for key, value in part.items()} for part in (self.one, self.two)]
-        return self._replace(core=round(self.core * scale), one=whole[0], two=whole[1])
+        one, two = ({key: rounded(value, scale) for key, value in part.items()} for part in (self.one, self.two))
+        return self._replace(core=rounded(self.core, scale), one=one, two=two)
+
+
+def rounded(value, scale):
+    """The value in units of 1/scale. Where the product is too large for a float, the value itself is a whole number."""
+    return round(value * scale) if math.isfinite(value * scale) else int(value) * scale
 
 
 # Reading
+
+
+class FileError(ValueError):
+    """What is wrong with a file, in a sentence that names it."""
 
 
 def read(path):
@@ -69,7 +80,7 @@ def read(path):
     try:
         return parse(lines)
     except ValueError as error:
-        raise ValueError(f"{path}, {error}") from None
+        raise FileError(f"{path}, {error}") from None
 
 
 def parse(lines):
@@ -94,18 +105,19 @@ def parse(lines):
 
 
 def header(lines):
-    """The header's entries, name: (texts, line number), and the number of its last line."""
-    if not lines or not re.match(r"\s*[&$]FCI\b", lines[0], re.IGNORECASE):
-        raise ValueError("line 1: an FCIDUMP begins with &FCI")
+    """The header's entries, name: (texts, line number), and the number of its last line. Blank lines may stand before it."""
+    first = next((number for number, line in enumerate(lines, 1) if line.strip()), 1)
+    if not lines or not re.match(r"\s*[&$]FCI\b", lines[first - 1], re.IGNORECASE):
+        raise ValueError(f"line {first}: an FCIDUMP begins with &FCI")
     entries, name = {}, ""
-    for number, line in enumerate(lines, 1):
-        text = re.sub(r"^\s*[&$]FCI\b", "", line, flags=re.IGNORECASE) if number == 1 else line
+    for number, line in enumerate(lines[first - 1:], first):
+        text = re.sub(r"^\s*[&$]FCI\b", "", line, flags=re.IGNORECASE) if number == first else line
         text, *rest = re.split(r"[&$]END\b|/", text, maxsplit=1, flags=re.IGNORECASE)
         for token in re.sub(r"\s*=\s*", "= ", text).replace(",", " ").split():
             if not token.endswith("=") and not name:
                 raise ValueError(f"line {number}: {token!r} stands in the header without a name")
             if not token.endswith("="):
-                entries[name][0].append(token)
+                entries[name][0].extend(repeated(token, number))
                 continue
             name = token[:-1].upper()
             if name in entries:
@@ -116,6 +128,19 @@ def header(lines):
                 raise ValueError(f"line {number}: {rest[0].strip()!r} stands after the header's end")
             return entries, number
     raise ValueError(f"line {len(lines)}: the header has no end, &END or /")
+
+
+def repeated(token, number):
+    """The values that a token of the header stands for: Fortran writes 1, 1 as 2*1 too."""
+    times, value = re.fullmatch(r"(?:(\d{1,9})\*)?(.+)", token, re.ASCII).groups()
+    if not 1 <= int(times or 1) <= MOST_ORBITALS:  # looked at first: the values take memory
+        raise ValueError(f"line {number}: {token!r} stands for {int(times)} values, not for 1 to {MOST_ORBITALS}")
+    return [value] * int(times or 1)
+
+
+def fits(electrons, twice_spin, orbitals):
+    """Whether there are whole numbers of electrons with spin up and with spin down, and an orbital for each of them."""
+    return (electrons + twice_spin) % 2 == 0 and abs(twice_spin) <= electrons <= 2 * orbitals - abs(twice_spin)
 
 
 def checked(entries, last):
@@ -133,7 +158,7 @@ def checked(entries, last):
     whole("ISYM", "1")
     if not 1 <= orbitals <= MOST_ORBITALS:
         raise ValueError(f"line {entries['NORB'][1]}: NORB is {orbitals}, not 1 to {MOST_ORBITALS}")
-    if not (electrons + twice_spin) % 2 == 0 <= electrons - abs(twice_spin) <= electrons + abs(twice_spin) <= 2 * orbitals:
+    if not fits(electrons, twice_spin, orbitals):
         raise ValueError(f"line {last}: NELEC {electrons} and MS2 {twice_spin} do not fit into {orbitals} orbitals")
     symmetry = tuple(whole("ORBSYM", "1" * orbitals))
     if not all(1 <= label <= 8 for label in symmetry):
@@ -193,9 +218,12 @@ def symmetric(indices, symmetry):
 def active(integrals, frozen, kept):
     """The integrals of an active space: the frozen orbitals doubly occupied, those neither frozen nor kept empty.
 
-    The kept orbitals are numbered anew, in the order given. What the frozen ones do to each other goes into the core energy,
-    and what they do to the others into h_pq.
+    Orbitals count from 0. The kept ones are numbered anew, in the order given. What the frozen ones do to each other goes
+    into the core energy, and what they do to the others into h_pq. What is no active space is a ValueError.
     """
+    frozen, kept = ([operator.index(p) for p in part] for part in (frozen, kept))
+    check_space(integrals, frozen, kept)
+
     def one(p, q):
         return integrals.one.get(pair(p, q), 0)
 
@@ -213,6 +241,24 @@ def active(integrals, frozen, kept):
     return integrals._replace(
         orbitals=len(kept), electrons=integrals.electrons - 2 * len(frozen),
         symmetry=tuple(integrals.symmetry[p] for p in kept), core=core, one=without_zeros(inner), two=without_zeros(outer))
+
+
+def check_space(integrals, frozen, kept):
+    """Whether these orbitals, frozen and kept, are an active space of the molecule; if not, a ValueError."""
+    if not kept:
+        raise ValueError("an active space keeps at least one orbital")
+    for p, times in Counter(frozen + kept).items():
+        if not 0 <= p < integrals.orbitals:
+            raise ValueError(f"orbital {p} is not one of 0 to {integrals.orbitals - 1}: orbitals count from 0 here")
+        if p in frozen and p in kept:
+            raise ValueError(f"orbital {p} cannot be both frozen and kept")
+        if times > 1:
+            raise ValueError(f"orbital {p} is {'frozen' if p in frozen else 'kept'} twice")
+    left = integrals.electrons - 2 * len(frozen)
+    if left < 0:
+        raise ValueError(f"{2 * len(frozen)} electrons cannot be frozen: there are {integrals.electrons}")
+    if not fits(left, integrals.twice_spin, len(kept)):
+        raise ValueError(f"{left} electrons with MS2 {integrals.twice_spin} do not fit into {len(kept)} kept orbitals")
 
 
 def without_zeros(values):
@@ -274,24 +320,39 @@ def count(integrals, scale):
     """The terms of the Hamiltonian, like ones joined, however many: also of one that is too long for a record."""
     sums = Counter()
     for product, value in ladders(integrals.scaled(scale)):
-        for cre, ann, coeff in fermion.Record.ladders(integrals.modes, product, value):
-            sums[cre, ann] += coeff
+        for cre, ann, coeff in fermion.Record.ladders(integrals.modes, product):
+            sums[cre, ann] += coeff * value  # here, as a record with a heavy value is refused
     return sum(coeff != 0 for coeff in sums.values())
 
 
 def largest_scale(record, scale, other):
     """The scale above which the Hamiltonian, given as a record with another one, cannot be multiplied by the other record,
     which is refusal 8. It is good to some digits, as each scale rounds the integrals in its own way."""
+    if not record.weight * other.weight:
+        raise ValueError("a product with a record without terms is never refused: there is no largest scale")
     return scale * fermion.MAX_WEIGHT / (record.weight * other.weight)
 
 
 def finest(integrals, other, scale=10**12):
-    """The Hamiltonian as a record that can be multiplied by the other one, and its scale: the one given, or less by tens."""
-    while True:
-        record = hamiltonian(integrals, scale)
-        if record.weight * other.weight <= fermion.MAX_WEIGHT:
-            return record, scale
-        scale //= 10
+    """The Hamiltonian as a record that can be multiplied by the other one, and its scale: the one given, or less by tens.
+    A ValueError where none from 1 on is small enough."""
+    tried = scale
+    while tried >= 1:
+        record = light(integrals, tried)
+        if record is not None and record.weight * other.weight <= fermion.MAX_WEIGHT:
+            return record, tried
+        tried //= 10
+    raise ValueError(f"the Hamiltonian is too heavy: no scale from 1 to {scale} gives a record that can be multiplied")
+
+
+def light(integrals, scale):
+    """The Hamiltonian as a record, or None where it is too heavy for one."""
+    try:
+        return hamiltonian(integrals, scale)
+    except fermion.Refusal as refusal:
+        if refusal.number not in (fermion.Reason.PRODUCT_TOO_HEAVY, fermion.Reason.RESULT_TOO_HEAVY):
+            raise  # no other scale helps
+        return None
 
 
 # The program
@@ -306,6 +367,14 @@ def library():
         stop(f"{error}{needs}")
 
 
+def helped(text):
+    """Whether the program was asked for help; prints it then."""
+    asked = not {"-h", "--help"}.isdisjoint(sys.argv[1:])
+    if asked:
+        print(text.strip())
+    return asked
+
+
 def stop(sentence):
     print(sentence, file=sys.stderr)
     sys.exit(2)
@@ -317,7 +386,7 @@ def in_words(path, error):
         return f"{path}: its Hamiltonian is {error}"
     if isinstance(error, OSError):
         return f"{path}: {error.strerror}"
-    return str(error) if isinstance(error, ValueError) else f"{path}: {error}"
+    return str(error) if isinstance(error, FileError) else f"{path}: {error}"
 
 
 def shipped():
@@ -333,12 +402,18 @@ def show(path, scale=10**9):
     if terms > fermion.MAX_TERMS:
         print(f"  {terms} terms on {integrals.modes} modes: more than the {fermion.MAX_TERMS} of a record")
         return
-    record, spin = hamiltonian(integrals, scale), four_s2(integrals.modes)
+    if not terms:
+        print(f"  no terms: at the scale {scale:.0e} every coefficient is zero or rounded to zero")
+        return
+    spin = four_s2(integrals.modes)
+    record, scale = finest(integrals, spin, scale)
     print(f"  {terms} terms on {integrals.modes} modes, weight {record.weight / scale:.6f} hartree; "
           f"scales up to {largest_scale(record, scale, spin):.3g} for [H, 4 S2]")
 
 
 def main():
+    if helped(__doc__):
+        return 0
     library()
     for path in sys.argv[1:] or shipped():
         try:

@@ -2,12 +2,14 @@
 """The energy of a molecule by full configuration interaction, from its FCIDUMP.
 
     python3 examples/molecule.py [FILE..]       without names, LiH and H2O in STO-3G, examples/molecules/*.fcidump
+    python3 examples/molecule.py --help         this text
 
 The Hamiltonian is made twice. Of a record of whole numbers the library tells, exactly, that it is Hermitian and commutes
 with the number of electrons, with Sz and with S^2. Of float terms it gives the elements between all determinants with the
 molecule's numbers of up and down electrons; the lowest eigenvalue of their matrix is the energy. It is compared with that
 in energies.txt beside the file, by the package that made the file. Status 0: as known, to 1e-9 hartree; 1: not so; 2: a file
-that cannot be read or does not fit, or no library.
+that cannot be read or does not fit, or no library. The lowest determinant's energy is printed too, beside the SCF energy: it
+is the same where the reference determinant is the lowest, which that of a stretched molecule need not be.
 """
 import itertools
 import math
@@ -15,7 +17,8 @@ import os
 import sys
 import time
 
-from fcidump import finest, float_hamiltonian, four_s2, in_words, library, read, shipped, stop, twice_sz
+from fcidump import (FileError, finest, float_hamiltonian, four_s2, helped, in_words, library, read, shipped, stop,
+                     twice_sz)
 import fermion
 
 CLOSE = 1e-9  # hartree
@@ -59,6 +62,11 @@ def assembled(terms, words):
     return rows
 
 
+def diagonal(rows):
+    """The energies of the determinants; those that are zero are in no row."""
+    return [dict(row).get(i, 0.0) for i, row in enumerate(rows)]
+
+
 # The lowest eigenvalue
 
 
@@ -72,8 +80,8 @@ def lowest_eigenvalue(rows, close=1e-8):
     The residual's length is at most `close` at the end, the error of the value about its square. The starting vector has
     something of every determinant, no two alike, so that the lowest state is found whatever its symmetry.
     """
-    diagonal = [dict(row).get(i, 0.0) for i, row in enumerate(rows)]
-    lowest = min(range(len(rows)), key=diagonal.__getitem__)
+    energies = diagonal(rows)
+    lowest = min(range(len(rows)), key=energies.__getitem__)
     fresh = [0.01 / (i + 2) for i in range(len(rows))]
     fresh[lowest] = 1.0
     basis, images = [], []
@@ -83,7 +91,7 @@ def lowest_eigenvalue(rows, close=1e-8):
         value, mix = lowest_of_small([[dot(a, b) for b in images] for a in basis])
         residual = [math.fsum(c * (image[i] - value * vector[i]) for c, vector, image in zip(mix, basis, images))
                     for i in range(len(rows))]
-        fresh = apart([r / (value - d) if abs(value - d) > 1e-4 else r for r, d in zip(residual, diagonal)], basis)
+        fresh = apart([r / (value - d) if abs(value - d) > 1e-4 else r for r, d in zip(residual, energies)], basis)
         if dot(residual, residual) <= close**2 or len(basis) == len(rows) or not any(fresh):
             return value
         if len(basis) == MOST_STEPS:
@@ -131,15 +139,24 @@ def known(path):
     except OSError:
         return {}
     except ValueError as error:
-        raise ValueError(f"{table}: {error}") from None
+        raise FileError(f"{table}: {error}") from None
 
 
-def compared(name, energy, reference):
-    """A line with an energy and the known one; whether they agree."""
-    if reference is None or math.isnan(reference):
-        return f"  {name}: {energy:.12f} hartree, none known", True
+def determinant_line(energy, scf):
+    """A line with the lowest determinant's energy, and which one that is. The SCF energy is no test of it: it belongs to
+    another determinant where the reference is not the lowest, and to none where the orbitals are not those of SCF."""
+    if math.isnan(scf):
+        return f"  lowest determinant: {energy:.12f} hartree, no SCF energy known"
+    same = "the SCF determinant" if abs(energy - scf) <= CLOSE else "below SCF" if energy < scf else "above SCF"
+    return f"  lowest determinant: {energy:.12f} hartree, SCF {scf:.12f}, apart by {abs(energy - scf):.1e}: {same}"
+
+
+def full_ci_line(energy, reference):
+    """A line with the full CI energy and the known one; whether they agree."""
+    if math.isnan(reference):
+        return f"  full CI: {energy:.12f} hartree, none known", True
     agrees = abs(energy - reference) <= CLOSE
-    return (f"  {name}: {energy:.12f} hartree, known {reference:.12f}, apart by {abs(energy - reference):.1e}: "
+    return (f"  full CI: {energy:.12f} hartree, known {reference:.12f}, apart by {abs(energy - reference):.1e}: "
             f"{'as known' if agrees else 'NOT as known'}"), agrees
 
 
@@ -165,18 +182,17 @@ def run(path):
         return False
     terms, words = float_hamiltonian(integrals), determinants(integrals)
     rows = assembled(terms, words)
-    say("  the lowest eigenvalue")
-    single = min(value for i, row in enumerate(rows) for column, value in row if column == i)
     print(f"  {len(words)} determinants, {sum(map(len, rows))} elements of {len(words)**2} are not zero")
-    right = True
-    for name, energy in (("SCF", single), ("full CI", lowest_eigenvalue(rows))):
-        line, agrees = compared(name, energy, references.get(name))
-        print(line, flush=True)
-        right &= agrees
+    print(determinant_line(min(diagonal(rows)), references.get("SCF", math.nan)), flush=True)
+    say("  the lowest eigenvalue")
+    line, right = full_ci_line(lowest_eigenvalue(rows), references.get("full CI", math.nan))
+    print(line, flush=True)
     return right
 
 
 def main():
+    if helped(__doc__):
+        return 0
     library()
     started, right = time.monotonic(), True
     for path in sys.argv[1:] or shipped():

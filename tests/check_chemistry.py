@@ -206,6 +206,74 @@ def check_active(tally):
                    (count, electrons, True), energy)
 
 
+def in_words(function, *args):
+    """The sentence of the ValueError that a call gives, or None."""
+    try:
+        function(*args)
+    except ValueError as error:
+        return str(error)
+    return None
+
+
+def check_no_space(tally):
+    """What is no active space of LiH, six orbitals and four electrons: the words that its sentence must have."""
+    integrals, triplet = fcidump.read(path("lih")), fcidump.read(path("lih"))._replace(twice_spin=2)
+    for what, space, frozen, kept, words in (
+            ("frozen and not there", integrals, [9], [1], "orbital 9 is not one of 0 to 5"),
+            ("kept and not there", integrals, [0], [1, 6], "orbital 6 is not one of 0 to 5"),
+            ("below 0", integrals, [0], [1, -1], "orbital -1 is not one of 0 to 5: orbitals count from 0"),
+            ("frozen and kept", integrals, [0, 1], [1, 2], "orbital 1 cannot be both"),
+            ("frozen twice", integrals, [0, 0], [1, 2], "orbital 0 is frozen twice"),
+            ("kept twice", integrals, [0], [1, 2, 1], "orbital 1 is kept twice"),
+            ("too many frozen", integrals, [0, 1, 2], [3], "6 electrons cannot be frozen: there are 4"),
+            ("none kept", integrals, [0], [], "at least one"),
+            ("too few kept", integrals, [], [0], "4 electrons with MS2 0 do not fit into 1 kept"),
+            ("a spin that is frozen", triplet, [0, 1], [2], "0 electrons with MS2 2 do not fit"),
+            ("a spin that takes more room", triplet, [], [0, 1], "4 electrons with MS2 2 do not fit into 2 kept")):
+        told = in_words(fcidump.active, space, frozen, kept)
+        tally.same("no active space", told is not None and words in told, True, (what, told))
+    for what, space, frozen, kept in (("all frozen", integrals, [1, 0], [5]), ("two up", triplet, [0], [4, 2]),
+                                      ("full", integrals, [], [0, 1])):
+        tally.same("at the edge of an active space", in_words(fcidump.active, space, frozen, kept), None, what)
+
+
+def check_header(tally):
+    """Blank lines before the header, and Fortran's repeats: the same as without them."""
+    plain = H2.splitlines()
+    tally.same("blank lines first", fcidump.parse(["", "  ", *plain]), fcidump.parse(plain), "H2")
+    for labels, symmetry in (("2*1,3", (1, 1, 3)), ("1,2*3", (1, 3, 3)), ("3*2", (2, 2, 2)), ("1*1,1*2,3", (1, 2, 3))):
+        lines = [f"&FCI NORB=3,NELEC=1*2,MS2=0,ORBSYM={labels},", "ISYM=1 /", "0.5 0 0 0 0"]
+        tally.same("repeats in the header", fcidump.parse(lines), fcidump.Integrals(3, 2, 0, symmetry, 0.5, {}, {}), labels)
+
+
+def two_sites(repulsion):
+    """Two sites with a repulsion U on each, and hopping: the weight is 2 U + 4."""
+    return fcidump.Integrals(2, 2, 0, (1, 1), 0.0, {(1, 0): -1.0},
+                             {((0, 0), (0, 0)): repulsion, ((1, 1), (1, 1)): repulsion})
+
+
+def check_finest(tally):
+    """The scale by hand. For n orbitals 4 S2 weighs 12 n + 8 n (n - 1), for two 40; 40 (2 U + 4) 10^k and 4 (2 U + 4) 10^k
+    are at most 2^60 = 1.15e18 up to k = 9 and 10 for U = 2,000,000. Already the record is refused with 9 at 10^12."""
+    heavy, spin, number = two_sites(2e6), fcidump.four_s2(4), fermion.number(4)
+    tally.same("a heavy Hamiltonian at 10^12", number_of(fcidump.hamiltonian, heavy, 10**12), 9, "U = 2,000,000")
+    for other, weight, scale in ((spin, 40, 10**9), (number, 4, 10**10)):
+        record, found = fcidump.finest(heavy, other)
+        tally.same("the finest scale of a heavy Hamiltonian", (other.weight, found, record.weight),
+                   (weight, scale, 4000004 * scale), weight)
+    tally.same("the scale 1", fcidump.finest(two_sites(1e17), number)[1], 1, "4 (2 U + 4) is 8e17")
+    for repulsion in (1e18, 1e30, 1e300):
+        told = in_words(fcidump.finest, two_sites(repulsion), number)
+        tally.same("no scale is small enough", told is not None and "too heavy" in told, True, (repulsion, told))
+    pairs = [(p, q) for p in range(7) for q in range(p + 1)]  # 3,382 terms, which no scale makes fewer
+    full = fcidump.Integrals(7, 2, 0, (1,) * 7, 0.0, {pair: 1.0 for pair in pairs}, {
+        (left, right): 1.0 + i + 40 * j for i, left in enumerate(pairs) for j, right in enumerate(pairs) if left >= right})
+    tally.same("too many terms at every scale", number_of(fcidump.finest, full, fermion.number(14)), 10, "7 orbitals")
+    nothing = fermion.Record.build(4, [])
+    told = in_words(fcidump.largest_scale, nothing, 10**9, spin)
+    tally.same("no largest scale", told is not None and "without terms" in told, True, told)
+
+
 def check_counts(tally):
     """Without any symmetry n orbitals have 1 + 2 n^2 + n^4 + 2 (n over 2)^2 terms: for n = 3 these are 118."""
     rng = random.Random(SEED)
@@ -216,6 +284,8 @@ def check_counts(tally):
     tally.same("terms without symmetry", fcidump.count(integrals, 10**9), 118, "3 orbitals")
     spin = [tuple(term) for term in fcidump.four_s2(2)]  # 3 n0 + 3 n1 - 6 n0 n1
     tally.same("4 S2 of one orbital", spin, [(1, 1, 3), (2, 2, 3), (3, 3, 6)], "4 S2")
+    spin = [tuple(term) for term in fcidump.twice_sz(4)]  # up less down, up in modes 0 and 2
+    tally.same("2 Sz of two orbitals", spin, [(1, 1, 1), (2, 2, -1), (4, 4, 1), (8, 8, -1)], "2 Sz")
 
 
 def check_eigenvalues(tally):
@@ -223,6 +293,8 @@ def check_eigenvalues(tally):
     chain = [[(j, 2.0 if i == j else -1.0) for j in (i - 1, i, i + 1) if 0 <= j < 40] for i in range(40)]
     value = molecule.lowest_eigenvalue(chain)
     tally.same("a chain of 40", abs(value - (2 - 2 * math.cos(math.pi / 41))) < 1e-12, True, value)
+    rows = [[(1, 2.0)], [(0, 2.0), (1, -1.0)], [], [(3, 0.5)]]
+    tally.same("a diagonal with its zeros", molecule.diagonal(rows), [0.0, -1.0, 0.0, 0.5], "rows without zeros")
     blocks = [[(0, 0.0)], [(1, 1.0), (2, 2.0)], [(1, 2.0), (2, 1.0)]]  # 0, and 1 - 2 and 1 + 2
     tally.same("a block beside the lowest element", round(molecule.lowest_eigenvalue(blocks), 9), -1.0, "blocks")
 
@@ -244,6 +316,9 @@ def main():
     check_counts(tally)
     check_eigenvalues(tally)
     check_active(tally)
+    check_no_space(tally)
+    check_header(tally)
+    check_finest(tally)
     check_rounding(tally)
     for name, kets in (("lih", 16), ("h2o", 8)):
         check_elements(tally, name, kets)

@@ -74,15 +74,90 @@ def check_energies(tally, printed):
     tally.same("molecule.py tells of both molecules", set(told), set(KNOWN), "its output")
     for name, (scf, full, determinants, modes) in KNOWN.items():
         lines = told.get(name, "")
-        for what, known in (("SCF", scf), ("full CI", full)):
-            found = re.findall(rf"^  {what}: (-\d+\.\d{{12}}) hartree", lines, re.M)
-            near = len(found) == 1 and abs(float(found[0]) - float(known)) <= CLOSE
-            tally.same(f"{name}: {what} as by Psi4", near, True, found)
+        for what, known, verdict in (("lowest determinant", scf, "the SCF determinant"), ("full CI", full, "as known")):
+            tally.same(f"{name}: {what} as by Psi4", told_energy(lines, what, float(known)), (True, verdict), lines)
         wanted = (f"{determinants} determinants", f"terms on {modes} modes", "Hermitian: True", "[H, N] has no terms",
                   "[H, 2 Sz] has no terms", "[H, 4 S2] has no terms")
         tally.same(f"{name}: what is told exactly", [each for each in wanted if each not in lines], [], lines)
         stored = [text(MOLECULES, file) for file in ("energies.txt", "README.md")]
         tally.same(f"{name}: the energies stored", [scf in each and full in each for each in stored], [True, True], name)
+
+
+def told_energy(lines, what, known):
+    """Whether the one line about an energy has the known one, and what that line says at its end."""
+    found = re.findall(rf"^  {what}: (-?\d+\.\d{{12}}) hartree.*[:,] (.*)$", lines, re.M)
+    near = len(found) == 1 and abs(float(found[0][0]) - known) <= CLOSE
+    return near, found[0][1] if found else None
+
+
+# Two sites: one orbital each, two electrons, which hop with -t and repel each other by U on one site
+
+
+def two_sites(*integrals):
+    return "&FCI NORB=2,NELEC=2,MS2=0 /\n" + "".join(f"{line}\n" for line in integrals) + "0.0 0 0 0 0\n"
+
+
+def hubbard(repulsion):
+    return two_sites(f"{repulsion} 1 1 1 1", f"{repulsion} 2 2 2 2", "-1.0 1 2 0 0")
+
+
+# (what it is, the file, the lowest state). A determinant with the electrons on two sites has the energy 0, and hopping leads
+# to the two with both on one site: the lowest state has (U - sqrt(U^2 + 16)) / 2, which is 2 - sqrt 8 for U = 4, and -2 for
+# U = 0. For U = 2,000,000 it is -4 / U, up to 1 / U^3.
+SITES = (
+    ("U = 4", hubbard("4.0"), -0.828427124746),
+    ("no element on the diagonal", two_sites("-1.0 1 2 0 0"), -2.0),
+    ("no element at all", two_sites(), 0.0),
+    ("U = 2,000,000", hubbard("2000000.0"), -0.000002),
+)
+
+
+def check_sites(tally, folder):
+    """Determinants whose energy is zero: the lowest one of each file here."""
+    for what, content, full in SITES:
+        ran = run(example("molecule.py"), write(folder, "sites.fcidump", content))
+        print(f"  two sites, {what}:\n{shown(ran)}", end="")
+        told = ran.returncode, told_energy(ran.stdout, "lowest determinant", 0.0), told_energy(ran.stdout, "full CI", full)
+        tally.same(f"two sites, {what}", told, (0, (True, "no SCF energy known"), (True, "none known")), shown(ran))
+
+
+def check_scf(tally, folder):
+    """An SCF energy that is not the lowest determinant's changes the word, and not the status."""
+    path = write(folder, "sites.fcidump", hubbard("4.0"))
+    for scf, word in (("1.0", "below SCF"), ("-0.5", "above SCF"), ("0.0", "the SCF determinant"),
+                      ("5e-10", "the SCF determinant"), ("2e-9", "below SCF"), ("nan", "no SCF energy known")):
+        write(folder, "energies.txt", f"sites.fcidump 0.0 {scf} -0.828427124746\n")
+        ran = run(example("molecule.py"), path)
+        told = ran.returncode, told_energy(ran.stdout, "lowest determinant", 0.0)[1], "full CI" in ran.stdout
+        tally.same(f"an SCF energy of {scf} beside a determinant of 0", told, (0, word, True), shown(ran))
+
+
+def check_scales(tally, folder):
+    """Hamiltonians without weight and with much: the scale is lowered as far as it helps, and a sentence says the rest."""
+    light = {"all zero": two_sites(), "all tiny": two_sites("1e-12 1 1 1 1", "1e-12 1 2 0 0")}
+    for what, content in light.items():
+        ran = run(example("fcidump.py"), write(folder, "light.fcidump", content))
+        tally.same(f"integrals {what}", (ran.returncode, ran.stderr, "  no terms" in ran.stdout), (0, "", True), shown(ran))
+    ran = run(example("fcidump.py"), write(folder, "heavy.fcidump", hubbard("2E10")))  # two times U, four times t
+    told = "6 terms on 4 modes, weight 40000000004.000000 hartree" in ran.stdout
+    tally.same("a heavy Hamiltonian", (ran.returncode, told), (0, True), shown(ran))
+    for repulsion in ("1E18", "1E300"):  # 2 U is above 2^60 at the scale 1; the second is above all floats at 10^12
+        path = write(folder, "heavy.fcidump", hubbard(repulsion))
+        for program in ("fcidump.py", "molecule.py"):
+            ran = run(example(program), path)
+            last = ran.stderr.splitlines()[-1:]
+            told = len(last) == 1 and last[0].startswith(f"{path}: ") and "too heavy" in last[0]
+            tally.same(f"{program}, a Hamiltonian too heavy for every scale",
+                       (ran.returncode, told, "Traceback" in ran.stderr), (2, True, False), shown(ran))
+
+
+def check_help(tally, _):
+    """What a program is for, also where there is no library."""
+    for program, words in (("molecule.py", "full configuration interaction"), ("fcidump.py", "the integrals of a molecule")):
+        for asked in (["--help"], ["-h"], ["none.fcidump", "--help"]):
+            ran = run(example(program), *asked, FERMION_LIB=example("hop.record"))
+            told = ran.returncode, ran.stderr, words in ran.stdout, f"examples/{program} [FILE..]" in ran.stdout
+            tally.same(f"{program} asked for help", told, (0, "", True, True), shown(ran))
 
 
 # What is not as known
@@ -126,7 +201,9 @@ def damaged(sound):
     again = next(i for i, line in enumerate(lines) if line.split()[1:] == ["2", "1", "1", "1"])
     yield "nothing", "", "line 1"
     yield "other bytes", "\x00\x93\xff\n" * 5, "line 1"
-    yield "without its header", sound[first:], "line 1"
+    yield "without its header", sound[first:], "line 1:"
+    yield "blank lines alone", "\n \n", "line 1:"
+    yield "blank lines and no header", "\n \n" + sound[first:], "line 3:"
     yield "the header alone", sound[:first], "line 8"
     yield "the header without an end", sound.replace("&END", ""), "no end"
     yield "no number of electrons", sound.replace("NELEC=4,", ""), "NELEC"
@@ -137,6 +214,10 @@ def damaged(sound):
     yield "an odd electron without a spin", sound.replace("NELEC=4", "NELEC=3"), "NELEC 3"
     yield "a symmetry too few", sound.replace("ORBSYM=1,", "ORBSYM="), "line 6"
     yield "a symmetry of 9", sound.replace("ORBSYM=1,", "ORBSYM=9,"), "line 6"
+    yield "a repeat too long", sound.replace("ORBSYM=1,", "ORBSYM=2*1,"), "line 6"
+    yield "a repeat of nothing", sound.replace("ORBSYM=1,", "ORBSYM=1*,"), "line 6"
+    yield "no repeats", sound.replace("ORBSYM=1,", "ORBSYM=0*7,1,"), "line 6"
+    yield "a thousand million repeats", sound.replace("ORBSYM=1,", "ORBSYM=999999999*1,"), "line 6"
     yield "orbitals for each spin", sound.replace("UHF=.FALSE.", "UHF=.TRUE."), "line 5"
     yield "the last line missing", "".join(lines[:-1]), f"line {len(lines) - 1}"
     yield "cut within a line", "".join(lines[:40]) + lines[40][:36], "line 41"
@@ -203,7 +284,7 @@ def check_missing(tally, folder):
 def main():
     tally = face.Tally()
     check_energies(tally, check_all(tally))
-    for check in (check_status_1, check_damaged, check_missing):
+    for check in (check_sites, check_scf, check_scales, check_help, check_status_1, check_damaged, check_missing):
         with tempfile.TemporaryDirectory() as folder:
             check(tally, folder)
     tally.close()
