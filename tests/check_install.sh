@@ -69,13 +69,37 @@ installs_under_destdir() {
         [ ! -e "$prefix" ]
 }
 
+installs_under_a_relative_destdir() { # from where one stands, not from the repository
+    DESTDIR=staged "$repository/tools/install.sh" /usr/fermion && diff -r "$first" staged/usr/fermion &&
+        [ ! -e "$repository/staged" ]
+}
+
+installs_twice_at_once() { # several turns, since two do not always meet
+    local turn one two
+    for turn in 1 2 3 4 5; do
+        rm -rf "$work/twice"
+        "$repository/tools/install.sh" "$work/twice" & one=$!
+        "$repository/tools/install.sh" "$work/twice" & two=$!
+        wait $one && wait $two && diff -r "$first" "$work/twice" || { echo "turn $turn" && return 1; }
+    done
+}
+
+links_lead_somewhere() { # in the documents that are installed
+    python3 - "$first" <<'PY'
+import pathlib, re, sys
+pages = [page for page in pathlib.Path(sys.argv[1]).rglob("*.md")]
+dead = [f"{page}: {link}" for page in pages for link in re.findall(r"\]\(([^)#\s]+)[^)]*\)", page.read_text(encoding="utf-8"))
+        if "://" not in link and not (page.parent / link).exists()]
+assert len(pages) >= 4 and not dead, dead
+PY
+}
+
 leaves_nothing_half_written() { # where lib is a file, no installation is possible
     mkdir "$work/unfit" && : >"$work/unfit/lib"
     if "$repository/tools/install.sh" "$work/unfit"; then
         echo "it claims to have installed" && return 1
     fi
-    same "$(files_of "$work/unfit" | grep '\.new')" "" &&
-        same "$(cd "$repository" && find target -maxdepth 1 -name 'install.*')" ""
+    same "$(files_of "$work/unfit" | grep '\.new')" "" && same "$(ls "$TMPDIR")" ""
 }
 
 c_names_itself() {
@@ -224,6 +248,9 @@ check "all files are there, and no others' leftovers" has_all
 check "it installs a second time into the same folder" installs_again
 check "it installs at a relative path with spaces" installs_at_a_relative_path_with_spaces
 check "it installs under DESTDIR" installs_under_destdir
+check "it installs under a DESTDIR that is relative" installs_under_a_relative_destdir
+check "two installations at once into one folder" installs_twice_at_once
+check "links of the installed documents lead somewhere" links_lead_somewhere
 check "an installation that fails leaves nothing half-written" leaves_nothing_half_written
 mv "$first" "$there"
 check "the shared object names itself libfermion.so.0" c_names_itself

@@ -167,6 +167,19 @@ def a_tree_that_was_moved_names_its_own_library():
     return faults
 
 
+def a_library_under_the_loaders_name_and_a_relative_path():
+    """Seen from where one stands; and libfermion.so.0, the name of the link beside another, can be the library's own."""
+    faults = []
+    with Copy(rt=RT, gcc=GCC) as copy:
+        made = subprocess.run([os.path.join(copy.root, "tools", "shared_object.sh"), "sub/libfermion.so.0"], cwd=copy.folder,
+                              env={"PATH": copy.path}, capture_output=True, text=True, timeout=60)
+        library = os.path.join(copy.folder, "sub", "libfermion.so.0")
+        expect(faults, made.returncode == 0 and made.stdout.startswith(f"{library}: "), f"{made.stdout!r} {made.stderr!r}")
+        expect(faults, os.path.isfile(library) and not os.path.islink(library), "it is no file")
+        expect(faults, not os.path.exists(os.path.join(copy.root, "sub")), "it was put into the tree")
+    return faults
+
+
 def it_shows_what_it_does_while_it_does_it():
     """rt goes on only when its first line has been seen on standard error."""
     with Copy(rt=RT_THAT_WAITS, gcc=GCC) as copy:
@@ -343,7 +356,7 @@ def the_library_of_this_repository():
 TESTS = [
     a_proof_that_fails_leaves_the_library, a_link_that_fails_leaves_the_library, a_build_replaces_the_library_and_says_which,
     what_is_built_is_not_built_again, a_library_that_was_changed_is_built_again, a_tree_that_was_moved_names_its_own_library,
-    it_shows_what_it_does_while_it_does_it, without_rt_a_sentence_says_so, without_gcc_a_sentence_says_so,
+    a_library_under_the_loaders_name_and_a_relative_path, it_shows_what_it_does_while_it_does_it, without_rt_a_sentence_says_so, without_gcc_a_sentence_says_so,
     without_an_argument_a_sentence_says_how, help_is_given, a_program_that_is_not_there, a_record_and_a_reply_are_printed,
     other_bytes_are_named_in_a_sentence, files_that_cannot_be_read_are_named, the_printer_gives_help,
     the_printers_sentences_are_the_documents, every_script_can_be_read_by_its_shell,
