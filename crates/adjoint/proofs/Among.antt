@@ -13,8 +13,8 @@ use mir.Facts.{toZ-ofZ}
 use lib.ListN.{length, take, drop, drop-of-length-le}
 use lib.Seq.{take-all}
 use Rattle.modes.specs.declared.Term.{Term}
-use Rattle.lent.specs.Every.{Every, none, more}
-use Rattle.lent.proofs.Every.{every-last}
+use Rattle.modes.specs.Every.{Every, none, more}
+use Rattle.modes.proofs.Every.{every-last}
 use Rattle.lent.proofs.RowLaws.{term-of}
 use Rattle.record.specs.Terms.{before, Above, Ascending, empty, above}
 use Rattle.record.specs.Blocks.{countIf, earlier}

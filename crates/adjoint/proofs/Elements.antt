@@ -12,8 +12,8 @@ use Rattle.modes.specs.Words.{bit}
 use Rattle.modes.specs.Counts.{parity, count, pairs}
 use Rattle.modes.specs.declared.Term.{Term}
 use Rattle.modes.specs.declared.Sign.{Sign}
-use Rattle.lent.specs.Every.{Every}
-use Rattle.lent.proofs.Every.{every-implies}
+use Rattle.modes.specs.Every.{Every}
+use Rattle.modes.proofs.Every.{every-implies}
 use Rattle.lent.specs.Rows.{Fit}
 use Rattle.products.specs.PhaseRule.{Outcome, gone, went, term}
 use Rattle.products.specs.Operators.{signed, adds, part, element}

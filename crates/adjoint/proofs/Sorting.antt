@@ -12,10 +12,10 @@ use lib.Seq.{drop-cons, take-all, take-add, take-at, take-append-le, drop-append
 use lib.IntN.{ℤ}
 use Rattle.modes.specs.declared.Term.{Term}
 use Rattle.lent.specs.Bytes.{num, numAt, put, zeros}
-use Rattle.lent.specs.Every.{Every, none, more}
-use Rattle.lent.proofs.Every.{every-map, every-both}
+use Rattle.modes.specs.Every.{Every, none, more}
+use Rattle.modes.proofs.Every.{every-map, every-both}
 use Rattle.lent.specs.Rows.{Fit}
-use Rattle.lent.proofs.SignedNumbers.{abs-fits}
+use Rattle.integers.proofs.SignedNumbers.{abs-fits}
 use Rattle.lent.proofs.Puts.{length-put, put-join}
 use Rattle.rows.specs.Terms.{at, upTo}
 use Rattle.rows.specs.Places.{columnPlaces, termIn, termsPlaced}

@@ -8,8 +8,8 @@ use lib.IntN.{ℤ, natAbs, negℤ-negℤ, _+ℤ_, +ℤ-assoc, +ℤ-comm}
 use lib.ListN.{length}
 use Rattle.modes.specs.declared.Term.{Term}
 use Rattle.modes.specs.Counts.{parity, pairs}
-use Rattle.lent.specs.Every.{Every, none, more}
-use Rattle.lent.proofs.Every.{every-implies, every-all}
+use Rattle.modes.specs.Every.{Every, none, more}
+use Rattle.modes.proofs.Every.{every-implies, every-all}
 use Rattle.lent.proofs.RowLaws.{term-of}
 use Rattle.products.specs.Operators.{signed}
 use Rattle.products.proofs.Signs.{abs-signed}
@@ -18,7 +18,7 @@ use Rattle.modes.proofs.Sums.{sum-map}
 use Rattle.record.specs.Terms.{before, Ascending, empty, above, weight}
 use Rattle.record.specs.Coefficients.{coeffIn}
 use Rattle.record.specs.Canonical.{Inside, Nonzero, Canonical}
-use Rattle.record.specs.Figures.{creations, annihilations}
+use Rattle.modes.specs.Terms.{creations, annihilations}
 use Rattle.record.proofs.Accepted.{abs-zero}
 use Rattle.record.proofs.Order.{Order, lower, level, order, Compared, less, same, greater, compare, above-trans}
 use Rattle.record.proofs.Coefficients.{same-terms}

@@ -7,7 +7,7 @@ use lib.ListN.{length, take, drop, length-take, length-map}
 use lib.Seq.{drop-nil, take-all}
 use Rattle.modes.specs.declared.Term.{Term}
 use Rattle.lent.specs.Bytes.{put}
-use Rattle.lent.specs.Every.{Every, none, more}
+use Rattle.modes.specs.Every.{Every, none, more}
 use Rattle.record.specs.Layout.{columns, putTerm}
 use Rattle.record.proofs.Columns.{spread, spread-none, spread-more, spread-all, length-spread}
 use Rattle.adjoint.specs.Adjoint.{adjointTerm}

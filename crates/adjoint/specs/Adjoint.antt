@@ -6,13 +6,13 @@ use lib.Dec.{eqb, leb}
 use lib.IntN.{natAbs}
 use Rattle.modes.specs.declared.Term.{Term}
 use Rattle.modes.specs.Counts.{parity, pairs}
-use Rattle.modes.specs.Answers.{refusal}
+use Rattle.modes.specs.Answers.{outputTooShort}
 use Rattle.lent.specs.Outputs.{Output, refusedOutput, filledOutput}
 use Rattle.products.specs.Operators.{signed}
 use Rattle.record.specs.Terms.{before}
 use Rattle.record.specs.Layout.{encode, modesOf, countOf, termsOf}
 use Rattle.record.specs.Refusals.{refusalOf}
-use Rattle.record.specs.Figures.{creations, annihilations}
+use Rattle.modes.specs.Terms.{creations, annihilations}
 
 -- pairs(cre) + pairs(ann) is odd
 unfoldable pub oddPairs : Term → Bool
@@ -44,5 +44,5 @@ adjointBytes l = encode (modesOf l) (adjointTerms (termsOf l))
 unfoldable pub adjointed : ℕ → List ℕ → Output
 adjointed room l =
     let filled = filledOutput room 0 (adjointBytes l) in
-    let held = cond (leb (32 + 24 * countOf l) room) filled (refusedOutput room (refusal 11 0 0)) in
+    let held = cond (leb (32 + 24 * countOf l) room) filled (refusedOutput room outputTooShort) in
     cond (eqb ((refusalOf 1 l) .number) 0) held (refusedOutput room (refusalOf 1 l))

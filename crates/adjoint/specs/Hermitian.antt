@@ -6,7 +6,7 @@ use mathlib.Core.Logic.{_⊎_}
 use Prim.Native.Nat.{ℕ}
 use lib.Dec.{eqb}
 use Rattle.modes.specs.declared.Term.{Term}
-use Rattle.lent.specs.Every.{Every}
+use Rattle.modes.specs.Every.{Every}
 use Rattle.record.specs.Numbers.{sameNumbers}
 use Rattle.record.specs.Refusals.{refusalOf}
 use Rattle.record.specs.declared.Tested.{Tested}

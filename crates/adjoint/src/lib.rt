@@ -12,7 +12,7 @@ ghost use lib.ListN.{length};
 ghost use Rattle.modes.specs.Words.{bit};
 ghost use Rattle.modes.specs.Counts.{count, pairs};
 ghost use Rattle.lent.specs.Bytes.{put, zeros};
-ghost use Rattle.lent.specs.Every.{Every};
+ghost use Rattle.modes.specs.Every.{Every};
 ghost use Rattle.lent.specs.Outputs.{Gives};
 ghost use Rattle.record.specs.Terms.{Ascending};
 ghost use Rattle.record.specs.Layout.{columns, encode, termsIn};
@@ -82,14 +82,7 @@ pub fn adjoint(a: &[u8], out: &mut [u8]) -> Written
     let n = c.terms;
     let len = 32 + 24 * n;
     if out.len() < len {
-        return lent::refuse(
-            out,
-            Refusal {
-                number: 11,
-                operand: 0,
-                place: 0,
-            },
-        );
+        return lent::refuse(out, Refusal::OUTPUT_TOO_SHORT);
     }
     write_adjoint(a, c.modes, n, out);
     Written {

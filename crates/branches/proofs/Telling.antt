@@ -9,7 +9,7 @@ use borrow.Author.Tests.{ne-eqb, le-leb, lt-leb}
 use Rattle.modes.specs.declared.Refusal.{Refusal}
 use Rattle.modes.specs.Answers.{refusal, none}
 use Rattle.record.specs.Layout.{termsIn}
-use Rattle.record.proofs.Refusals.{or-first, or-second}
+use Rattle.modes.proofs.Refusals.{or-first, or-second}
 use Rattle.lincomb.specs.Results.{pairRefusal, openedOf}
 use Rattle.lincomb.specs.declared.Opened.{Opened}
 use Rattle.lincomb.proofs.Results.{Opens, opens, shuts, sound}

@@ -6,7 +6,7 @@ use lib.Dec.{eqb}
 use Rattle.modes.specs.declared.Refusal.{Refusal}
 use Rattle.modes.specs.Answers.{none}
 use Rattle.record.specs.Layout.{termsOf}
-use Rattle.record.specs.Refusals.{orElse}
+use Rattle.modes.specs.Refusals.{orElse}
 use Rattle.lincomb.specs.Results.{pairRefusal}
 use Rattle.pairs.specs.Products.{allBranches}
 use Rattle.multiply.specs.Answers.{workRefusal}

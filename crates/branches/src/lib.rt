@@ -112,11 +112,7 @@ pub fn branches(a: &[u8], b: &[u8]) -> BranchCounts
     let forward = of_all(a, p.left, b, p.right);
     let backward = of_all(b, p.right, a, p.left);
     if MOST < forward + backward {
-        return BranchCounts::refused(Refusal {
-            number: 7,
-            operand: 0,
-            place: 0,
-        });
+        return BranchCounts::refused(Refusal::ROWS_DO_NOT_FIT);
     }
     BranchCounts {
         refusal: Refusal::NONE,

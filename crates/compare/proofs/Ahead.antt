@@ -10,7 +10,7 @@ use Rattle.modes.specs.declared.Term.{Term}
 use Rattle.modes.proofs.Bools.{and-l, and-r}
 use Rattle.modes.proofs.Digits.{lt-or-ge}
 use Rattle.record.specs.Terms.{before}
-use Rattle.record.specs.Figures.{annihilations}
+use Rattle.modes.specs.Terms.{annihilations}
 use Rattle.record.proofs.Order.{Compared, less, same, greater, compare, before-trans, before-one-way}
 use Rattle.compare.specs.Comparison.{ahead}
 

@@ -10,13 +10,12 @@ use borrow.Author.Tests.{eq-eqb, ne-eqb, eqb-true, eqb-false}
 use Rattle.modes.specs.Sums.{sumOf}
 use Rattle.modes.specs.declared.Term.{Term}
 use Rattle.modes.proofs.Bools.{and-l, and-r}
-use Rattle.lent.specs.Every.{Every, none, more}
-use Rattle.lent.proofs.Every.{every-implies, every-both}
+use Rattle.modes.specs.Every.{Every, none, more}
+use Rattle.modes.proofs.Every.{every-implies, every-both}
 use Rattle.record.specs.Terms.{Above, Ascending, empty, above}
 use Rattle.record.specs.Coefficients.{coeffOf}
-use Rattle.record.proofs.Coefficients.{earlier-words}
+use Rattle.record.proofs.Coefficients.{earlier-words, own-coeff}
 use Rattle.record.proofs.Accepted.{abs-zero}
-use Rattle.record.proofs.Coefficients.{own-coeff}
 use Rattle.lincomb.specs.Normal.{dropZeros}
 use Rattle.lincomb.specs.Sums.{turn}
 use Rattle.lincomb.specs.Merging.{merge}

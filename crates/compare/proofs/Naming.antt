@@ -9,7 +9,7 @@ use Rattle.modes.specs.Words.{bit}
 use Rattle.modes.specs.Counts.{count}
 use Rattle.modes.specs.Answers.{none as unrefused}
 use Rattle.modes.specs.declared.Term.{Term}
-use Rattle.lent.specs.Every.{Every, none, more}
+use Rattle.modes.specs.Every.{Every, none, more}
 use Rattle.compare.specs.Comparison.{ahead, foremost, named}
 use Rattle.compare.proofs.Ahead.{fewer, is-ahead, not-itself, ahead-words, Placed, first, alike, second, placed, behind, not-ahead}
 

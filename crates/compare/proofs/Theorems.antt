@@ -17,7 +17,7 @@ use Rattle.record.specs.Layout.{modesOf, termsOf}
 use Rattle.record.specs.Refusals.{refusalOf}
 use Rattle.record.specs.Coefficients.{coeffOf}
 use Rattle.record.specs.Canonical.{Canonical}
-use Rattle.record.proofs.Refusals.{or-second}
+use Rattle.modes.proofs.Refusals.{or-second}
 use Rattle.record.proofs.Accepted.{accepted-canonical, accepted-none}
 use Rattle.record.proofs.Inverse.{Small, same-bytes}
 use Rattle.record.proofs.Coefficients.{same-terms}

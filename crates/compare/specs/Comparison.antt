@@ -8,7 +8,7 @@ use Rattle.modes.specs.declared.Term.{Term}
 use Rattle.modes.specs.declared.Refusal.{Refusal}
 use Rattle.modes.specs.Answers.{none}
 use Rattle.record.specs.Terms.{before}
-use Rattle.record.specs.Figures.{annihilations}
+use Rattle.modes.specs.Terms.{annihilations}
 use Rattle.record.specs.Coefficients.{coeffOf}
 use Rattle.record.specs.Layout.{termsOf}
 use Rattle.lincomb.specs.Results.{pairRefusal}

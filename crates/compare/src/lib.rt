@@ -40,8 +40,8 @@ struct Found {
 fn is_ahead(t: Term, u: Term) -> bool
     ensures { λ r. ⌜ r ≡ ahead t u ⌝ }
 {
-    let x = record::modes_in(t.ann);
-    let y = record::modes_in(u.ann);
+    let x = modes::modes_in(t.ann);
+    let y = modes::modes_in(u.ann);
     if x != y {
         return x < y;
     }

@@ -14,7 +14,9 @@ use Rattle.record.specs.Numbers.{stored, numbers, sameNumbers}
 use Rattle.record.specs.Terms.{before, weight}
 use Rattle.record.specs.Example.{example}
 use Rattle.record.specs.Layout.{header, column, columns, together, termsIn, laidOut}
-use Rattle.record.specs.Refusals.{orElse, inside, termRefusal, termsRefusal, refusalOf}
+use Rattle.modes.specs.Refusals.{orElse}
+use Rattle.modes.specs.Spaces.{inside}
+use Rattle.record.specs.Refusals.{termRefusal, termsRefusal, refusalOf}
 use Rattle.lincomb.specs.Normal.{join, insert, collect, dropZeros}
 use Rattle.lincomb.specs.Results.{pairRefusal, resultRefusal, recordOutput}
 use Rattle.pairs.specs.Products.{pairRows, rowsWith, allRows, branchesWith, allBranches}

@@ -5,7 +5,7 @@ use mathlib.Core.List.{List, [], _∷_}
 use Prim.Native.Nat.{ℕ, _-_, _^_}
 use lib.IntN.{ℤ, pos, negsuc}
 use Rattle.modes.specs.declared.Term.{Term}
-use Rattle.modes.specs.Answers.{refusal}
+use Rattle.modes.specs.Answers.{rowsDoNotFit, outputTooShort}
 use Rattle.lent.specs.Outputs.{Output, refusedOutput, filledOutput}
 use Rattle.products.specs.Apply.{applied}
 use Rattle.products.specs.Operators.{element}
@@ -86,8 +86,8 @@ cases =
     ∷ (14 ▸ element-is example 1 1 one)
     ∷ (14 ▸ element-is example 2 2 minus-one)
     ∷ (14 ▸ element-is example 3 3 (pos 0))
-    ∷ (14 ▸ commutes (record-of 1 2) (record-of 2 1) 95 80 (refusedOutput 80 (refusal 7 0 0)))
-    ∷ (14 ▸ commutes (record-of 1 2) (record-of 2 1) 96 79 (refusedOutput 79 (refusal 11 0 0)))
+    ∷ (14 ▸ commutes (record-of 1 2) (record-of 2 1) 95 80 (refusedOutput 80 rowsDoNotFit))
+    ∷ (14 ▸ commutes (record-of 1 2) (record-of 2 1) 96 79 (refusedOutput 79 outputTooShort))
     ∷ []
 
 abbrev pub AllHold : List Numbered → Type 0

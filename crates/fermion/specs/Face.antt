@@ -17,7 +17,7 @@ use Rattle.products.specs.declared.ApplyResult.{ApplyResult}
 use Rattle.products.specs.declared.ApplyResult.the-variants.{Applied, Zero}
 use Rattle.record.specs.declared.Checked.{Checked}
 use Rattle.record.specs.declared.Tested.{Tested}
-use Rattle.record.specs.declared.Measured.{Measured}
+use Rattle.figures.specs.declared.Measured.{Measured}
 use Rattle.record.specs.declared.Stretch.{Stretch}
 use Rattle.mat_elem.specs.declared.Exact.{Exact}
 use Rattle.float_elem.specs.Sums.{plusZero}

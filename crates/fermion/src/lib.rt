@@ -17,18 +17,18 @@ ghost use Rattle.float_elem.specs.Elements.{floatElement};
 ghost use Rattle.compare.specs.Comparison.{comparedOf};
 ghost use Rattle.record.specs.Refusals.{checkedOf};
 ghost use Rattle.record.specs.Blocks.{blockOf};
-ghost use Rattle.record.specs.Figures.{conservesOf, maxNBodyOf, activeModesOf};
+ghost use Rattle.figures.specs.Figures.{conservesOf, maxNBodyOf, activeModesOf};
 ghost use Rattle.fermion.specs.Face.{applyAnswer, writtenAnswer, answered, checkedAnswer, testedAnswer, measuredAnswer, stretchAnswer, elementAnswer, Fills, FillsClean};
 ghost use Rattle.fermion.specs.Face.{floatValues, floatAnswer, FillsFloat, comparedAnswer, branchesAnswer, inRows, FillsMatrix};
 use branches::BranchCounts;
 use compare::Compared;
+use figures::Measured;
 use float_elem::FloatElement;
 use mat_elem::Exact;
 use mat_elem::Projected;
 use modes::Refusal;
 use modes::Written;
 use products::ApplyResult;
-use record::Measured;
 use record::Tested;
 
 // 1 for true
@@ -60,7 +60,7 @@ fn measured(m: Measured) -> [u64; 8]
 fn exact(e: Exact) -> [u64; 8]
     ensures { λ a. ⌜ a ≡ elementAnswer e ⌝ }
 {
-    answer_of(e.refusal, lent::bits(e.value), 0, 0)
+    answer_of(e.refusal, integers::bits(e.value), 0, 0)
 }
 
 // the answer of a call that fills an output
@@ -209,21 +209,21 @@ pub extern "C" fn fermion_is_hermitian(a: &[u8], answer: &mut [u64; 8])
 pub extern "C" fn fermion_conserves_particle_number(a: &[u8], answer: &mut [u64; 8])
     ensures { λ _. ⌜ now (answer .exit) ≡ testedAnswer (conservesOf (now (a .entry))) ⌝ }
 {
-    *answer = tested(record::conserves_particle_number(a));
+    *answer = tested(figures::conserves_particle_number(a));
 }
 
 #[no_mangle]
 pub extern "C" fn fermion_max_n_body(a: &[u8], answer: &mut [u64; 8])
     ensures { λ _. ⌜ now (answer .exit) ≡ measuredAnswer (maxNBodyOf (now (a .entry))) ⌝ }
 {
-    *answer = measured(record::max_n_body(a));
+    *answer = measured(figures::max_n_body(a));
 }
 
 #[no_mangle]
 pub extern "C" fn fermion_active_modes(a: &[u8], answer: &mut [u64; 8])
     ensures { λ _. ⌜ now (answer .exit) ≡ measuredAnswer (activeModesOf (now (a .entry))) ⌝ }
 {
-    *answer = measured(record::active_modes(a));
+    *answer = measured(figures::active_modes(a));
 }
 
 #[no_mangle]

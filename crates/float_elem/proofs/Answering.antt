@@ -11,8 +11,9 @@ use lib.Ieee.Scale.{finite}
 use borrow.Author.Tests.{ne-eqb}
 use Rattle.modes.specs.Answers.{refusal, none}
 use Rattle.modes.specs.declared.Refusal.{Refusal}
-use Rattle.record.proofs.Refusals.{or-first, or-second}
-use Rattle.mat_elem.specs.Refusals.{firstRefusal, wordsRefusal}
+use Rattle.modes.proofs.Refusals.{or-first, or-second}
+use Rattle.modes.specs.Refusals.{firstRefusal}
+use Rattle.modes.specs.Spaces.{wordsRefusal}
 use Rattle.float_elem.specs.Sums.{sumTo}
 use Rattle.float_elem.specs.Answers.{Told, toldBy, unless}
 use Rattle.float_elem.specs.declared.FloatElement.{FloatElement}

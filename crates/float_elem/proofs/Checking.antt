@@ -9,14 +9,12 @@ use lib.ListN.{length}
 use lib.Ieee.{Float}
 use lib.Ieee.Scale.{finite}
 use borrow.Author.Tests.{eq-eqb, ne-eqb, le-leb, lt-leb, eqb-true}
-use Rattle.modes.specs.Spaces.{spaceOf}
+use Rattle.modes.specs.Spaces.{spaceOf, isMade, inside}
 use Rattle.modes.specs.Answers.{refusal, none}
 use Rattle.modes.specs.declared.Refusal.{Refusal}
 use Rattle.modes.specs.declared.MadeSpace.{MadeSpace}
 use Rattle.modes.specs.declared.MadeSpace.the-variants.{Refused}
 use Rattle.modes.proofs.Bools.{and-l, and-r}
-use Rattle.record.specs.Layout.{isMade}
-use Rattle.record.specs.Refusals.{inside}
 use Rattle.float_elem.specs.Elements.{allFinite, listed, floatTermRefusal}
 use Rattle.float_elem.specs.Lengths.{OneLength}
 

@@ -14,8 +14,8 @@ use Rattle.products.specs.PhaseRule.{Outcome, went, term}
 use Rattle.products.specs.Apply.{applied}
 use Rattle.products.specs.declared.ApplyResult.the-variants.{Applied, Zero}
 use Rattle.products.proofs.Outcomes.{outcome-gone, outcome-went}
-use Rattle.mat_elem.specs.Refusals.{firstRefusal}
-use Rattle.mat_elem.proofs.FirstRefusals.{first-starts, first-goes, first-stays}
+use Rattle.modes.specs.Refusals.{firstRefusal}
+use Rattle.modes.proofs.FirstRefusals.{first-starts, first-goes, first-stays}
 use Rattle.float_elem.specs.declared.Complex64.{Complex64}
 use Rattle.float_elem.specs.Sums.{plusZero, signedFloat, addedFloat, joined, sumTo}
 use Rattle.float_elem.specs.Answers.{Told, unless}

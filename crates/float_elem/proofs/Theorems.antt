@@ -18,12 +18,11 @@ use Rattle.modes.specs.declared.Refusal.{Refusal}
 use Rattle.modes.proofs.Bools.{and-l, and-r}
 use Rattle.modes.proofs.Digits.{lt-or-ge}
 use Rattle.products.specs.PhaseRule.{Outcome, gone, went}
-use Rattle.lent.specs.Every.{Every, none as nothing, more}
-use Rattle.record.specs.Refusals.{orElse, inside}
-use Rattle.record.proofs.Refusals.{or-second}
-use Rattle.record.proofs.Accepted.{neither}
-use Rattle.mat_elem.specs.Refusals.{firstRefusal}
-use Rattle.mat_elem.proofs.FirstRefusals.{first-starts, first-none, first-goes}
+use Rattle.modes.specs.Every.{Every, none as nothing, more}
+use Rattle.modes.specs.Refusals.{orElse, firstRefusal}
+use Rattle.modes.specs.Spaces.{inside}
+use Rattle.modes.proofs.Refusals.{or-second, neither}
+use Rattle.modes.proofs.FirstRefusals.{first-starts, first-none, first-goes}
 use Rattle.float_elem.specs.Sums.{plusZero, signedFloat, addedFloat, sumTo}
 use Rattle.float_elem.specs.Answers.{Told, unless}
 use Rattle.float_elem.specs.Elements.{allFinite, floatTermRefusal, termAt, inputRefusal, sumsTo, sumAt, sumRefusal, floatElement}

@@ -6,12 +6,10 @@ use lib.Dec.{eqb, leb}
 use lib.ListN.{length, getD}
 use lib.Ieee.{Float, nan}
 use lib.Ieee.Scale.{finite}
-use Rattle.modes.specs.Spaces.{spaceOf}
+use Rattle.modes.specs.Spaces.{spaceOf, isMade, inside, wordsRefusal}
 use Rattle.modes.specs.Answers.{refusal, none}
 use Rattle.modes.specs.declared.Refusal.{Refusal}
-use Rattle.record.specs.Layout.{isMade}
-use Rattle.record.specs.Refusals.{orElse, inside}
-use Rattle.mat_elem.specs.Refusals.{firstRefusal, wordsRefusal}
+use Rattle.modes.specs.Refusals.{orElse, firstRefusal}
 use Rattle.float_elem.specs.Sums.{sumTo}
 use Rattle.float_elem.specs.Answers.{Told, unless}
 

@@ -7,7 +7,7 @@ ghost use mathlib.Core.Path.{_≡_};
 ghost use mathlib.Core.List.{[], _∷_};
 ghost use lib.Ieee.Scale.{finite};
 ghost use lib.ListN.{length};
-ghost use Rattle.mat_elem.specs.Refusals.{firstRefusal};
+ghost use Rattle.modes.specs.Refusals.{firstRefusal};
 ghost use Rattle.float_elem.specs.Sums.{joined};
 ghost use Rattle.float_elem.specs.Answers.{toldBy};
 ghost use Rattle.float_elem.specs.Elements.{allFinite, listed, floatTermRefusal, termAt, summed, floatElement};
@@ -53,7 +53,7 @@ fn is_listed(m: u64, cre: &[u64], ann: &[u64], re: &[f64], im: &[f64]) -> bool
     let MadeSpace::Made(_) = ModeSpace::from_count(m) else {
         return false;
     };
-    if record::MOST_TERMS < cre.len() {
+    if modes::MOST_TERMS < cre.len() {
         return false;
     }
     if ann.len() != cre.len() {
@@ -69,7 +69,7 @@ fn is_listed(m: u64, cre: &[u64], ann: &[u64], re: &[f64], im: &[f64]) -> bool
 fn term_refusal(space: ModeSpace, place: u64, cre: u64, ann: u64, c: Complex64) -> Refusal
     ensures { λ r. ⌜ r ≡ floatTermRefusal (space .count) place cre ann (c .re ∷ c .im ∷ []) ⌝ }
 {
-    if !record::is_inside(space, cre, ann) {
+    if !modes::is_inside(space, cre, ann) {
         return Refusal {
             number: 2,
             operand: 1,
@@ -180,7 +180,7 @@ pub fn mat_elem_complex(
         return FloatElement::Refused(terms);
     }
     let space = ModeSpace { count: m };
-    let words = mat_elem::words_refusal(space, bra, ket);
+    let words = modes::words_refusal(space, bra, ket);
     if words.number != 0 {
         return FloatElement::Refused(words);
     }

@@ -5,8 +5,8 @@ use mathlib.Core.List.{List, [], _∷_, _++_}
 use lib.IntN.{pos}
 use Rattle.modes.specs.Sums.{sumOf}
 use Rattle.modes.specs.declared.Term.{Term}
-use Rattle.lent.specs.Every.{Every, none, more}
-use Rattle.lent.proofs.Every.{every-last}
+use Rattle.modes.specs.Every.{Every, none, more}
+use Rattle.modes.proofs.Every.{every-last}
 use Rattle.record.specs.Terms.{before, Ascending, empty, above}
 use Rattle.record.specs.Coefficients.{coeffOf}
 use Rattle.record.proofs.Order.{before-trans}

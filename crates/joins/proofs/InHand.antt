@@ -13,8 +13,8 @@ use mir.Val.{SFits}
 use Rattle.modes.specs.Sums.{sumOf}
 use Rattle.modes.specs.declared.Term.{Term}
 use Rattle.modes.proofs.Sums.{sum-last}
-use Rattle.lent.specs.Every.{Every, none}
-use Rattle.lent.proofs.Every.{every-last}
+use Rattle.modes.specs.Every.{Every, none}
+use Rattle.modes.proofs.Every.{every-last}
 use Rattle.lent.specs.Rows.{Fit}
 use Rattle.lent.proofs.RowLaws.{term-of}
 use Rattle.rows.specs.Order.{key}

@@ -7,10 +7,10 @@ use native.Mathlib.Omega.{arith}
 use lib.IntN.{natAbs}
 use lib.ListN.{length, drop}
 use Rattle.modes.specs.declared.Term.{Term}
-use Rattle.lent.specs.Every.{none}
+use Rattle.modes.specs.Every.{none}
 use Rattle.lent.specs.Rows.{Fit, rowAt, rowsAt}
 use Rattle.lent.proofs.RowLaws.{rows-more}
-use Rattle.lent.proofs.SignedNumbers.{sum-fits}
+use Rattle.integers.proofs.SignedNumbers.{sum-fits}
 use Rattle.rows.specs.Order.{key, keyOf}
 use Rattle.record.specs.Terms.{empty}
 use Rattle.record.specs.Coefficients.{coeffOf}

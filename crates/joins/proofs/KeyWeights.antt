@@ -9,7 +9,7 @@ use lib.IntN.{ℤ, pos, natAbs}
 use Rattle.modes.specs.Sums.{sumOf}
 use Rattle.modes.specs.declared.Term.{Term}
 use Rattle.lent.specs.Rows.{rowsAt}
-use Rattle.lent.proofs.SignedNumbers.{abs-sum}
+use Rattle.integers.proofs.SignedNumbers.{abs-sum}
 use Rattle.record.specs.Terms.{weight}
 use Rattle.record.specs.Coefficients.{coeffIn, coeffOf}
 use Rattle.joins.specs.KeyWeights.{keyWeight, Light}

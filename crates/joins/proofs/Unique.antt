@@ -4,7 +4,7 @@ use mathlib.Core.List.{List}
 use Prim.Native.Nat.{ℕ}
 use lib.ListN.{length}
 use Rattle.modes.specs.declared.Term.{Term}
-use Rattle.lent.specs.Every.{Every}
+use Rattle.modes.specs.Every.{Every}
 use Rattle.lent.specs.Rows.{rowsAt}
 use Rattle.lent.proofs.RowLaws.{length-rows-at}
 use Rattle.record.specs.Terms.{Ascending}

@@ -3,7 +3,7 @@ use mathlib.Core.Path.{_≡_}
 use mathlib.Core.List.{List}
 use Prim.Native.Nat.{ℕ, _*_, _≤_}
 use lib.ListN.{length, drop}
-use Rattle.lent.specs.Every.{Every}
+use Rattle.modes.specs.Every.{Every}
 use Rattle.lent.specs.Rows.{Fit, rowsAt}
 use Rattle.record.specs.Terms.{Ascending}
 use Rattle.record.specs.Canonical.{Nonzero}

@@ -39,7 +39,7 @@ fn meet(work: &mut [u8], i: usize, o: Open) -> Open
     let next = lent::get_row(work, 24 * i);
     if next.ann == row.ann {
         if next.cre == row.cre {
-            let coeff = lent::sum(row.coeff, next.coeff);
+            let coeff = integers::sum(row.coeff, next.coeff);
             let joined = Term {
                 cre: row.cre,
                 ann: row.ann,

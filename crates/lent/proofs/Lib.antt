@@ -1,7 +1,5 @@
 pub mod Numbers
 pub mod Puts
 pub mod NumbersAt
-pub mod SignedNumbers
 pub mod RowLaws
 pub mod Outputs
-pub mod Every

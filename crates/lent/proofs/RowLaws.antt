@@ -12,7 +12,7 @@ use mir.Val.{Fits, toZ, ofZ}
 use mir.Facts.{toZ-ofZ, ofZ-toZ, fits-ofZ, sfits-toZ}
 use Rattle.modes.specs.declared.Term.{Term}
 use Rattle.lent.specs.Bytes.{bytes, num, numAt, wordAt, put, putWord}
-use Rattle.lent.specs.Every.{Every, none, more}
+use Rattle.modes.specs.Every.{Every, none, more}
 use Rattle.lent.specs.Rows.{rowBytes, rowAt, putRow, rowsBytes, rowsAt, Fit}
 use Rattle.lent.proofs.Numbers.{length-bytes, num-bytes}
 use Rattle.lent.proofs.NumbersAt.{num-at, num-before, num-after, num-at-below, bytes-at}

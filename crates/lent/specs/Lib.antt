@@ -1,4 +1,3 @@
 pub mod Bytes
-pub mod Every
 pub mod Rows
 pub mod Outputs

@@ -1,15 +1,11 @@
-// Little-endian words and rows in lent bytes, signed numbers, and wiping.
+// Little-endian words and rows in lent bytes, and wiping.
 use modes::Refusal;
 use modes::Term;
 use modes::Written;
 ghost use mathlib.Core.Path.{_≡_};
 ghost use mathlib.Core.List.{_++_};
-ghost use Prim.Native.Nat.{_+_, _-_, _*_, _≤_, _<_, _^_};
-ghost use lib.IntN.{negℤ, natAbs, _+ℤ_, _*ℤ_};
+ghost use Prim.Native.Nat.{_+_, _-_, _≤_, _<_, _^_};
 ghost use lib.ListN.{length, take};
-ghost use lib.Signed.{mag};
-ghost use mir.Syntax.{w64};
-ghost use mir.Val.{toZ, ofZ};
 ghost use Rattle.lent.specs.Bytes.{halfAt, wordAt, putHalf, putWord, zeros};
 ghost use Rattle.lent.specs.Rows.{Fit, rowAt, putRow};
 ghost use Rattle.lent.specs.Outputs.{Gives, refusedOutput};
@@ -59,61 +55,6 @@ pub fn put_word(s: &mut [u8], at: usize, x: u64)
     put_half(s, at + 4, (x / 4294967296) as usize);
 }
 
-// The signed number whose bits x are.
-pub fn signed(x: u64) -> i64
-    ensures { λ r. ⌜ r ≡ toZ w64 x ⌝ }
-{
-    if x < 0x8000_0000_0000_0000 {
-        x as i64
-    } else {
-        -1 - ((u64::MAX - x) as i64)
-    }
-}
-
-// How far x is from the nearer of 0 and -1, which is below 2^63 for every x.
-fn folded(x: i64) -> u64
-    ensures { λ r. ⌜ (r ≡ mag x) × (r < 2 ^ 63) ⌝ }
-{
-    if x < 0 { (-1 - x) as u64 } else { x as u64 }
-}
-
-// The bits of a signed number.
-pub fn bits(x: i64) -> u64
-    ensures { λ r. ⌜ r ≡ ofZ w64 x ⌝ }
-{
-    let m = folded(x);
-    if x < 0 { u64::MAX - m } else { m }
-}
-
-// How far x is from zero, also at the least number.
-pub fn magnitude(x: i64) -> u64
-    ensures { λ r. ⌜ (r ≡ natAbs x) × (r ≤ 2 ^ 63) ⌝ }
-{
-    let m = folded(x);
-    if x < 0 { m + 1 } else { m }
-}
-
-pub fn sum(x: i64, y: i64) -> i64
-    requires { ⌜ natAbs x + natAbs y < 2 ^ 63 ⌝ }
-    ensures { λ r. ⌜ r ≡ x +ℤ y ⌝ }
-{
-    x + y
-}
-
-pub fn negated(x: i64) -> i64
-    requires { ⌜ natAbs x < 2 ^ 63 ⌝ }
-    ensures { λ r. ⌜ r ≡ negℤ x ⌝ }
-{
-    -x
-}
-
-pub fn product(x: i64, y: i64) -> i64
-    requires { ⌜ natAbs x * natAbs y < 2 ^ 63 ⌝ }
-    ensures { λ r. ⌜ r ≡ x *ℤ y ⌝ }
-{
-    x * y
-}
-
 // The term whose row stands at `at`.
 pub fn get_row(s: &[u8], at: usize) -> Term
     requires { ⌜ at + 24 ≤ length (now s) ⌝ }
@@ -121,7 +62,7 @@ pub fn get_row(s: &[u8], at: usize) -> Term
 {
     let ann = word(s, at);
     let cre = word(s, at + 8);
-    let coeff = signed(word(s, at + 16));
+    let coeff = integers::signed(word(s, at + 16));
     Term { cre, ann, coeff }
 }
 
@@ -132,7 +73,7 @@ pub fn put_row(s: &mut [u8], at: usize, t: Term)
 {
     put_word(s, at, t.ann);
     put_word(s, at + 8, t.cre);
-    put_word(s, at + 16, bits(t.coeff));
+    put_word(s, at + 16, integers::bits(t.coeff));
 }
 
 // Every byte to zero.

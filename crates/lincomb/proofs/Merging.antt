@@ -9,7 +9,7 @@ use lib.IntN.{natAbs}
 use lib.ListN.{drop}
 use Rattle.modes.specs.declared.Term.{Term}
 use Rattle.modes.proofs.Sums.{sum-append}
-use Rattle.lent.specs.Every.{Every, none, more}
+use Rattle.modes.specs.Every.{Every, none, more}
 use Rattle.record.specs.Terms.{before, Above, Ascending, empty, above}
 use Rattle.record.specs.Layout.{termsIn}
 use Rattle.record.specs.Reading.{At}

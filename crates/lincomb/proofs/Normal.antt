@@ -7,8 +7,8 @@ use lib.Dec.{eqb}
 use lib.IntN.{natAbs}
 use borrow.Author.Tests.{eq-eqb, eqb-false}
 use Rattle.modes.specs.declared.Term.{Term}
-use Rattle.lent.specs.Every.{Every, none, more}
-use Rattle.lent.proofs.Every.{every-map}
+use Rattle.modes.specs.Every.{Every, none, more}
+use Rattle.modes.proofs.Every.{every-map}
 use Rattle.products.specs.Operators.{element}
 use Rattle.record.specs.Terms.{before, Above, Ascending, empty, above}
 use Rattle.record.specs.Coefficients.{coeffOf}

@@ -15,15 +15,16 @@ use Rattle.modes.specs.declared.Written.{Written}
 use Rattle.modes.specs.Answers.{refusal, none, wrote}
 use Rattle.modes.proofs.Digits.{lt-or-ge}
 use Rattle.lent.specs.Bytes.{put, zeros}
-use Rattle.lent.specs.Every.{Every}
+use Rattle.modes.specs.Every.{Every}
 use Rattle.lent.specs.Outputs.{Output, refusedOutput, filledOutput, Gives}
 use Rattle.record.specs.Terms.{Ascending, weight}
 use Rattle.record.specs.Layout.{header, columns, encode, modesOf, countOf, termsOf}
-use Rattle.record.specs.Refusals.{orElse, refusalOf, checkedOf}
+use Rattle.modes.specs.Refusals.{orElse}
+use Rattle.record.specs.Refusals.{refusalOf, checkedOf}
 use Rattle.record.specs.Canonical.{Inside, Nonzero, Canonical}
 use Rattle.record.specs.declared.Checked.{Checked}
-use Rattle.record.proofs.Refusals.{or-first, or-second}
-use Rattle.record.proofs.Accepted.{neither, accepted-laid, accepted-canonical, accepted-none, Accepted, accepted, refused}
+use Rattle.modes.proofs.Refusals.{or-first, or-second, neither}
+use Rattle.record.proofs.Accepted.{accepted-laid, accepted-canonical, accepted-none, Accepted, accepted, refused}
 use Rattle.record.proofs.Columns.{record-written}
 use Rattle.record.proofs.Inverse.{length-encode, decode-modes, decode-terms, encode-accepted}
 use Rattle.lincomb.specs.Results.{pairRefusal, resultRefusal, recordOutput, resultOf, shut, standing, openedOf}

@@ -10,8 +10,8 @@ use Rattle.modes.proofs.Sums.{sum-append}
 use Rattle.modes.specs.declared.Refusal.{Refusal}
 use Rattle.modes.specs.declared.Written.{Written}
 use Rattle.modes.specs.Answers.{none}
-use Rattle.lent.specs.Every.{Every}
-use Rattle.lent.proofs.Every.{every-append, every-map}
+use Rattle.modes.specs.Every.{Every}
+use Rattle.modes.proofs.Every.{every-append, every-map}
 use Rattle.lent.specs.Outputs.{refusedOutput, filledOutput, Gives}
 use Rattle.products.specs.Operators.{signed, part, element}
 use Rattle.record.specs.Terms.{weight}

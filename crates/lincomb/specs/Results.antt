@@ -6,22 +6,23 @@ use lib.Dec.{eqb, leb}
 use lib.ListN.{length}
 use Rattle.modes.specs.declared.Term.{Term}
 use Rattle.modes.specs.declared.Refusal.{Refusal}
-use Rattle.modes.specs.Answers.{refusal, none}
+use Rattle.modes.specs.Answers.{none, modesDiffer, resultTooHeavy, tooManyTerms, outputTooShort}
 use Rattle.lent.specs.Outputs.{Output, refusedOutput, filledOutput}
 use Rattle.record.specs.Terms.{weight}
 use Rattle.record.specs.Layout.{encode, modesOf, countOf, termsOf}
-use Rattle.record.specs.Refusals.{orElse, refusalOf}
+use Rattle.modes.specs.Refusals.{orElse}
+use Rattle.record.specs.Refusals.{refusalOf}
 use Rattle.lincomb.specs.declared.Opened.{Opened}
 
 -- the first record fully, the second likewise, then 6
 unfoldable pub pairRefusal : List ℕ → List ℕ → Refusal
-pairRefusal a b = orElse (refusalOf 1 a) (orElse (refusalOf 2 b) (cond (eqb (modesOf a) (modesOf b)) none (refusal 6 0 0)))
+pairRefusal a b = orElse (refusalOf 1 a) (orElse (refusalOf 2 b) (cond (eqb (modesOf a) (modesOf b)) none modesDiffer))
 
 -- a result of n terms and weight w, for an output of room bytes: 10, 9, 11
 unfoldable pub resultRefusal : ℕ → ℕ → ℕ → Refusal
 resultRefusal room n w =
-    orElse (cond (leb n 2048) none (refusal 10 0 0))
-    (orElse (cond (leb w (2 ^ 60)) none (refusal 9 0 0)) (cond (leb (32 + 24 * n) room) none (refusal 11 0 0)))
+    orElse (cond (leb n 2048) none tooManyTerms)
+    (orElse (cond (leb w (2 ^ 60)) none resultTooHeavy) (cond (leb (32 + 24 * n) room) none outputTooShort))
 
 -- the record of the terms ts on m modes, or the refusal r
 unfoldable pub recordOutput : ℕ → ℕ → Refusal → ℕ → List Term → Output

@@ -71,11 +71,7 @@ pub fn open_pair(a: &[u8], b: &[u8]) -> Opened
         return Opened::refused(refusal);
     }
     if p.modes != q.modes {
-        return Opened::refused(Refusal {
-            number: 6,
-            operand: 0,
-            place: 0,
-        });
+        return Opened::refused(Refusal::MODES_DIFFER);
     }
     Opened {
         refusal: Refusal::NONE,
@@ -91,26 +87,14 @@ pub fn open_pair(a: &[u8], b: &[u8]) -> Opened
 pub fn verdict(room: usize, n: usize, w: u64) -> Refusal
     ensures { λ r. ⌜ r ≡ resultRefusal room n w ⌝ }
 {
-    if record::MOST_TERMS < n {
-        return Refusal {
-            number: 10,
-            operand: 0,
-            place: 0,
-        };
+    if modes::MOST_TERMS < n {
+        return Refusal::TOO_MANY_TERMS;
     }
     if record::HEAVIEST < w {
-        return Refusal {
-            number: 9,
-            operand: 0,
-            place: 0,
-        };
+        return Refusal::RESULT_TOO_HEAVY;
     }
     if room < 32 + 24 * n {
-        return Refusal {
-            number: 11,
-            operand: 0,
-            place: 0,
-        };
+        return Refusal::OUTPUT_TOO_SHORT;
     }
     Refusal::NONE
 }
@@ -120,7 +104,7 @@ pub fn joined(t: Term, u: Term) -> Term
     requires { ⌜ natAbs (t .coeff) + natAbs (u .coeff) < 2 ^ 63 ⌝ }
     ensures { λ r. ⌜ r ≡ join t u ⌝ }
 {
-    let coeff = lent::sum(t.coeff, u.coeff);
+    let coeff = integers::sum(t.coeff, u.coeff);
     Term {
         cre: u.cre,
         ann: u.ann,
@@ -134,7 +118,7 @@ pub fn turned(sign: Sign, t: Term) -> Term
     ensures { λ r. ⌜ r ≡ turn (sign .0) t ⌝ }
 {
     if sign.0 {
-        let coeff = lent::negated(t.coeff);
+        let coeff = integers::negated(t.coeff);
         return Term {
             cre: t.cre,
             ann: t.ann,

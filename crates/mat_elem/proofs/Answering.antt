@@ -12,9 +12,9 @@ use Rattle.record.specs.Terms.{weight}
 use Rattle.record.specs.Layout.{termsIn}
 use Rattle.record.specs.Refusals.{refusalOf, checkedOf}
 use Rattle.record.specs.declared.Checked.{Checked}
-use Rattle.record.proofs.Refusals.{or-first, or-second}
+use Rattle.modes.proofs.Refusals.{or-first, or-second}
 use Rattle.record.proofs.Accepted.{Accepted, accepted, readable, refused}
-use Rattle.mat_elem.specs.Refusals.{wordsRefusal}
+use Rattle.modes.specs.Spaces.{wordsRefusal}
 use Rattle.mat_elem.specs.Elements.{elementRefusal, refusedElement, elementOf}
 use Rattle.mat_elem.specs.declared.Exact.{Exact}
 

@@ -14,14 +14,15 @@ use mir.Val.{SFits}
 use Rattle.modes.specs.Answers.{none}
 use Rattle.modes.specs.Sums.{sumOf}
 use Rattle.modes.specs.declared.Term.{Term}
-use Rattle.lent.proofs.SignedNumbers.{abs-sum, abs-fits}
+use Rattle.integers.proofs.SignedNumbers.{abs-sum, abs-fits}
 use Rattle.products.specs.PhaseRule.{Outcome, gone, went, term}
 use Rattle.products.specs.Operators.{signed, adds, part, element}
 use Rattle.products.proofs.Signs.{abs-signed}
 use Rattle.record.specs.Terms.{weight}
 use Rattle.record.specs.Layout.{modesOf, termsOf}
 use Rattle.record.specs.Refusals.{refusalOf}
-use Rattle.record.proofs.Accepted.{neither, accepted-canonical}
+use Rattle.modes.proofs.Refusals.{neither}
+use Rattle.record.proofs.Accepted.{accepted-canonical}
 use Rattle.mat_elem.specs.Matrix.{EightNumbers, EightRows, upToEight, rowOf, zeroRow, matrixOf, basisRefusal, refusedMatrix, projectedRefusal, projectedOf}
 use Rattle.mat_elem.proofs.Projecting.{basis-short}
 

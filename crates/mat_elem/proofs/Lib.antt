@@ -1,7 +1,5 @@
 pub mod Summing
 pub mod Answering
-pub mod Words
-pub mod FirstRefusals
 pub mod Bases
 pub mod Filling
 pub mod Projecting

@@ -14,14 +14,16 @@ use Rattle.modes.specs.declared.Term.{Term}
 use Rattle.modes.proofs.Digits.{lt-or-ge}
 use Rattle.products.specs.Operators.{element}
 use Rattle.record.specs.Layout.{modesOf, termsOf}
-use Rattle.record.specs.Refusals.{orElse, refusalOf}
-use Rattle.record.proofs.Accepted.{neither, accepted-none}
+use Rattle.modes.specs.Refusals.{orElse}
+use Rattle.record.specs.Refusals.{refusalOf}
+use Rattle.modes.proofs.Refusals.{neither}
+use Rattle.record.proofs.Accepted.{accepted-none}
 use Rattle.mat_elem.specs.Elements.{elementRefusal, elementOf}
 use Rattle.mat_elem.specs.Matrix.{outsideAt, basisRefusal, rowOf, zeroRow, matrixOf, entryAt, refusedMatrix, projectedRefusal, projectedOf}
 use Rattle.mat_elem.specs.declared.Row.{Row}
 use Rattle.mat_elem.specs.declared.Projected.{Projected}
-use Rattle.mat_elem.proofs.Words.{word-inside}
-use Rattle.mat_elem.proofs.FirstRefusals.{first-none}
+use Rattle.modes.proofs.Spaces.{word-inside}
+use Rattle.modes.proofs.FirstRefusals.{first-none}
 
 -- ---- eight entries
 

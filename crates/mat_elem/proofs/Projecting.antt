@@ -12,11 +12,11 @@ use Rattle.modes.specs.declared.Refusal.{Refusal}
 use Rattle.modes.specs.declared.Term.{Term}
 use Rattle.record.specs.Terms.{weight}
 use Rattle.record.specs.Layout.{termsIn, termsOf}
-use Rattle.record.specs.Refusals.{orElse, refusalOf, checkedOf}
+use Rattle.modes.specs.Refusals.{orElse, firstRefusal}
+use Rattle.record.specs.Refusals.{refusalOf, checkedOf}
 use Rattle.record.specs.declared.Checked.{Checked}
-use Rattle.record.proofs.Refusals.{or-first, or-second}
-use Rattle.record.proofs.Accepted.{neither, Accepted, accepted, readable, refused}
-use Rattle.mat_elem.specs.Refusals.{firstRefusal}
+use Rattle.modes.proofs.Refusals.{or-first, or-second, neither}
+use Rattle.record.proofs.Accepted.{Accepted, accepted, readable, refused}
 use Rattle.mat_elem.specs.Matrix.{outsideAt, repeatAt, basisRefusal, matrixOf, refusedMatrix, projectedRefusal, projectedOf}
 use Rattle.mat_elem.specs.declared.Projected.{Projected}
 

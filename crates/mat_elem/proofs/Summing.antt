@@ -18,7 +18,7 @@ use Rattle.products.specs.declared.ApplyResult.the-variants.{Applied, Zero}
 use Rattle.products.proofs.Outcomes.{outcome-gone, outcome-went}
 use Rattle.record.specs.Terms.{weight}
 use Rattle.record.specs.Reading.{At}
-use Rattle.lent.proofs.SignedNumbers.{abs-sum}
+use Rattle.integers.proofs.SignedNumbers.{abs-sum}
 
 -- ---- one term
 

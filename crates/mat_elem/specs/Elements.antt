@@ -8,8 +8,9 @@ use Rattle.modes.specs.Answers.{none}
 use Rattle.modes.specs.declared.Refusal.{Refusal}
 use Rattle.products.specs.Operators.{element}
 use Rattle.record.specs.Layout.{modesOf, termsOf}
-use Rattle.record.specs.Refusals.{orElse, refusalOf}
-use Rattle.mat_elem.specs.Refusals.{wordsRefusal}
+use Rattle.modes.specs.Refusals.{orElse}
+use Rattle.record.specs.Refusals.{refusalOf}
+use Rattle.modes.specs.Spaces.{wordsRefusal}
 use Rattle.mat_elem.specs.declared.Exact.{Exact}
 
 unfoldable pub elementRefusal : List ℕ → ℕ → ℕ → Refusal

@@ -13,8 +13,9 @@ use Rattle.modes.specs.declared.Refusal.{Refusal}
 use Rattle.modes.specs.declared.Term.{Term}
 use Rattle.products.specs.Operators.{element}
 use Rattle.record.specs.Layout.{modesOf, termsOf}
-use Rattle.record.specs.Refusals.{orElse, refusalOf}
-use Rattle.mat_elem.specs.Refusals.{firstRefusal, wordRefusal}
+use Rattle.modes.specs.Refusals.{orElse, firstRefusal}
+use Rattle.record.specs.Refusals.{refusalOf}
+use Rattle.modes.specs.Spaces.{wordRefusal}
 use Rattle.mat_elem.specs.declared.Row.{Row}
 use Rattle.mat_elem.specs.declared.Projected.{Projected}
 

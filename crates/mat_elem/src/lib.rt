@@ -11,7 +11,8 @@ ghost use Rattle.products.specs.Operators.{part, element};
 ghost use Rattle.modes.specs.Answers.{none};
 ghost use Rattle.record.specs.Terms.{weight};
 ghost use Rattle.record.specs.Layout.{termsIn};
-ghost use Rattle.mat_elem.specs.Refusals.{firstRefusal, wordRefusal, wordsRefusal};
+ghost use Rattle.modes.specs.Refusals.{firstRefusal};
+ghost use Rattle.modes.specs.Spaces.{wordRefusal, wordsRefusal};
 ghost use Rattle.mat_elem.specs.Elements.{refusedElement, elementOf};
 ghost use Rattle.mat_elem.specs.Matrix.{outsideAt, stands, repeatAt, basisRefusal, rowOf, matrixOf, refusedMatrix, projectedOf};
 
@@ -27,31 +28,6 @@ impl Exact {
     {
         Exact { refusal, value: 0 }
     }
-}
-
-// Number 12 of a word that the caller names, where it holds a mode outside.
-fn word_refusal(space: ModeSpace, operand: u64, place: u64, word: u64) -> Refusal
-    ensures { λ r. ⌜ r ≡ wordRefusal (space .count) operand place word ⌝ }
-{
-    if space.contains(word) {
-        return Refusal::NONE;
-    }
-    Refusal {
-        number: 12,
-        operand,
-        place,
-    }
-}
-
-// The bra is checked before the ket.
-pub fn words_refusal(space: ModeSpace, bra: u64, ket: u64) -> Refusal
-    ensures { λ r. ⌜ r ≡ wordsRefusal (space .count) bra ket ⌝ }
-{
-    let r = word_refusal(space, 3, 0, bra);
-    if r.number != 0 {
-        return r;
-    }
-    word_refusal(space, 4, 0, ket)
 }
 
 // What one term adds at (bra, ket).
@@ -77,7 +53,7 @@ fn sum_parts(s: &[u8], n: usize, bra: u64, ket: u64) -> i64
     let mut i = 0;
     while i < n {
         let t = record::read_term(s, n, i);
-        sum = lent::sum(sum, part_of(t, bra, ket));
+        sum = integers::sum(sum, part_of(t, bra, ket));
         i += 1;
     }
     sum
@@ -93,7 +69,7 @@ pub fn element(a: &[u8], bra: u64, ket: u64) -> Exact
         return Exact::refused(refusal);
     }
     let space = ModeSpace { count: c.modes };
-    let words = words_refusal(space, bra, ket);
+    let words = modes::words_refusal(space, bra, ket);
     if words.number != 0 {
         return Exact::refused(words);
     }
@@ -134,7 +110,7 @@ fn outside_refusal(space: ModeSpace, basis: &[u64]) -> Refusal
 {
     let mut i = 0;
     while i < basis.len() {
-        let r = word_refusal(space, 3, i as u64, basis[i]);
+        let r = modes::word_refusal(space, 3, i as u64, basis[i]);
         if r.number != 0 {
             return r;
         }

@@ -6,3 +6,8 @@ pub mod Sums
 pub mod Lowest
 pub mod Single
 pub mod Before
+pub mod Every
+pub mod Refusals
+pub mod FirstRefusals
+pub mod Spaces
+pub mod Unique

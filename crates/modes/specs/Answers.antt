@@ -10,6 +10,25 @@ refusal number operand place = record { number = number; operand = operand; plac
 abbrev pub none : Refusal
 none = refusal 0 0 0
 
+-- the refusals that blame no operand: their operand and place are 0
+abbrev pub modesDiffer : Refusal
+modesDiffer = refusal 6 0 0
+
+abbrev pub rowsDoNotFit : Refusal
+rowsDoNotFit = refusal 7 0 0
+
+abbrev pub productTooHeavy : Refusal
+productTooHeavy = refusal 8 0 0
+
+abbrev pub resultTooHeavy : Refusal
+resultTooHeavy = refusal 9 0 0
+
+abbrev pub tooManyTerms : Refusal
+tooManyTerms = refusal 10 0 0
+
+abbrev pub outputTooShort : Refusal
+outputTooShort = refusal 11 0 0
+
 -- refused: length and branches are 0
 abbrev pub refused : Refusal → Written
 refused r = record { refusal = r; len = 0; branches = 0 }

@@ -1,6 +1,9 @@
 pub mod Bools
 pub mod Words
 pub mod Counts
+pub mod Every
 pub mod Sums
-pub mod Spaces
+pub mod Terms
 pub mod Answers
+pub mod Refusals
+pub mod Spaces

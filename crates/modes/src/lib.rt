@@ -1,11 +1,12 @@
 // Signs, mode spaces, terms and refusals: the values that every other crate is made of.
 ghost use mathlib.Core.Path.{_≡_};
 ghost use mathlib.Core.Bool.{true, false};
-ghost use Prim.Native.Nat.{_^_};
+ghost use Prim.Native.Nat.{_^_, _≤_};
 ghost use lib.Dec.{ltb};
 ghost use Rattle.modes.specs.Bools.{_⊕_};
-ghost use Rattle.modes.specs.Counts.{parity};
-ghost use Rattle.modes.specs.Spaces.{spaceOf};
+ghost use Rattle.modes.specs.Words.{bit};
+ghost use Rattle.modes.specs.Counts.{parity, count};
+ghost use Rattle.modes.specs.Spaces.{spaceOf, inside, wordRefusal, wordsRefusal};
 ghost use Rattle.modes.specs.Answers.{refused};
 
 // A sign, plus or minus; the bool is true for minus.
@@ -71,6 +72,9 @@ impl ModeSpace {
     }
 }
 
+// The most terms that a record or a list of terms may have.
+pub const MOST_TERMS: usize = 2048;
+
 // A term of an operator: its creation word, its annihilation word, and its coefficient.
 pub struct Term {
     pub cre: u64,
@@ -88,6 +92,43 @@ pub struct Refusal {
 impl Refusal {
     pub const NONE: Refusal = Refusal {
         number: 0,
+        operand: 0,
+        place: 0,
+    };
+
+    // The refusals that blame no operand.
+    pub const MODES_DIFFER: Refusal = Refusal {
+        number: 6,
+        operand: 0,
+        place: 0,
+    };
+
+    pub const ROWS_DO_NOT_FIT: Refusal = Refusal {
+        number: 7,
+        operand: 0,
+        place: 0,
+    };
+
+    pub const PRODUCT_TOO_HEAVY: Refusal = Refusal {
+        number: 8,
+        operand: 0,
+        place: 0,
+    };
+
+    pub const RESULT_TOO_HEAVY: Refusal = Refusal {
+        number: 9,
+        operand: 0,
+        place: 0,
+    };
+
+    pub const TOO_MANY_TERMS: Refusal = Refusal {
+        number: 10,
+        operand: 0,
+        place: 0,
+    };
+
+    pub const OUTPUT_TOO_SHORT: Refusal = Refusal {
+        number: 11,
         operand: 0,
         place: 0,
     };
@@ -111,4 +152,43 @@ impl Written {
             branches: 0,
         }
     }
+}
+
+// How many modes the word holds.
+pub fn modes_in(word: u64) -> u64
+    ensures { λ r. ⌜ (r ≡ count 64 (bit word)) × (r ≤ 64) ⌝ }
+{
+    u64::count_ones(word) as u64
+}
+
+// Do both words hold only modes of the space?
+pub fn is_inside(space: ModeSpace, cre: u64, ann: u64) -> bool
+    ensures { λ r. ⌜ r ≡ inside (space .count) cre ann ⌝ }
+{
+    space.contains(ann | cre)
+}
+
+// Number 12 of a word that the caller names, where it holds a mode outside.
+pub fn word_refusal(space: ModeSpace, operand: u64, place: u64, word: u64) -> Refusal
+    ensures { λ r. ⌜ r ≡ wordRefusal (space .count) operand place word ⌝ }
+{
+    if space.contains(word) {
+        return Refusal::NONE;
+    }
+    Refusal {
+        number: 12,
+        operand,
+        place,
+    }
+}
+
+// The bra is checked before the ket.
+pub fn words_refusal(space: ModeSpace, bra: u64, ket: u64) -> Refusal
+    ensures { λ r. ⌜ r ≡ wordsRefusal (space .count) bra ket ⌝ }
+{
+    let r = word_refusal(space, 3, 0, bra);
+    if r.number != 0 {
+        return r;
+    }
+    word_refusal(space, 4, 0, ket)
 }

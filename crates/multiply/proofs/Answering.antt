@@ -16,8 +16,8 @@ use Rattle.lent.specs.Rows.{rowsAt}
 use Rattle.record.specs.Terms.{weight}
 use Rattle.record.specs.Layout.{modesOf, termsOf, termsIn}
 use Rattle.record.specs.Coefficients.{coeffOf}
-use Rattle.record.specs.Refusals.{orElse}
-use Rattle.record.proofs.Refusals.{or-first, or-second}
+use Rattle.modes.specs.Refusals.{orElse}
+use Rattle.modes.proofs.Refusals.{or-first, or-second}
 use Rattle.lincomb.specs.Normal.{normal}
 use Rattle.lincomb.specs.Results.{pairRefusal, resultOf, openedOf}
 use Rattle.lincomb.specs.declared.Opened.{Opened}

@@ -10,17 +10,19 @@ use lib.Pow.{pow-mono}
 use Rattle.modes.specs.declared.Term.{Term}
 use Rattle.modes.specs.declared.Written.{Written}
 use Rattle.modes.specs.Answers.{none}
-use Rattle.lent.specs.Every.{Every, none as nothing, more}
-use Rattle.lent.proofs.Every.{every-implies, every-append}
+use Rattle.modes.specs.Every.{Every, none as nothing, more}
+use Rattle.modes.proofs.Every.{every-implies, every-append}
 use Rattle.lent.specs.Outputs.{Gives}
 use Rattle.products.specs.Operators.{signed, element}
 use Rattle.products.specs.Product.{rowsTimes}
 use Rattle.products.proofs.ProductTheorems.{rows-within}
 use Rattle.record.specs.Terms.{weight}
 use Rattle.record.specs.Layout.{modesOf, termsOf}
-use Rattle.record.specs.Refusals.{orElse, refusalOf}
+use Rattle.modes.specs.Refusals.{orElse}
+use Rattle.record.specs.Refusals.{refusalOf}
 use Rattle.record.specs.Canonical.{Inside, Canonical}
-use Rattle.record.proofs.Accepted.{neither, accepted-canonical}
+use Rattle.modes.proofs.Refusals.{neither}
+use Rattle.record.proofs.Accepted.{accepted-canonical}
 use Rattle.lincomb.specs.Normal.{normal}
 use Rattle.lincomb.specs.Results.{pairRefusal}
 use Rattle.lincomb.proofs.Totals.{element-normal}

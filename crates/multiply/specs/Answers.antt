@@ -6,23 +6,23 @@ use Prim.Native.Nat.{ℕ, _*_, _^_}
 use lib.Dec.{leb}
 use Rattle.modes.specs.declared.Refusal.{Refusal}
 use Rattle.modes.specs.declared.Written.{Written}
-use Rattle.modes.specs.Answers.{refusal, none}
+use Rattle.modes.specs.Answers.{none, rowsDoNotFit, productTooHeavy}
 use Rattle.lent.specs.Bytes.{zeros}
 use Rattle.lent.specs.Outputs.{Output, Gives}
 use Rattle.record.specs.Terms.{weight}
 use Rattle.record.specs.Layout.{modesOf, termsOf}
-use Rattle.record.specs.Refusals.{orElse}
+use Rattle.modes.specs.Refusals.{orElse}
 use Rattle.lincomb.specs.Normal.{normal}
 use Rattle.lincomb.specs.Results.{pairRefusal, resultOf}
 use Rattle.pairs.specs.Products.{allRows, allBranches}
 
 -- 8: the product of the two weights
 unfoldable pub weightRefusal : ℕ → ℕ → Refusal
-weightRefusal v w = cond (leb (v * w) (2 ^ 60)) none (refusal 8 0 0)
+weightRefusal v w = cond (leb (v * w) (2 ^ 60)) none productTooHeavy
 
 -- 7: one row of work a branch
 unfoldable pub workRefusal : ℕ → ℕ → Refusal
-workRefusal room branches = cond (leb (24 * branches) room) none (refusal 7 0 0)
+workRefusal room branches = cond (leb (24 * branches) room) none rowsDoNotFit
 
 -- both records and 6, then 8, then 7
 abbrev pub earlyRefusal : Bool → ℕ → List ℕ → List ℕ → Refusal

@@ -22,11 +22,7 @@ fn weight_refusal(v: u64, w: u64) -> Refusal
 {
     if v != 0 {
         if record::HEAVIEST / v < w {
-            return Refusal {
-                number: 8,
-                operand: 0,
-                place: 0,
-            };
+            return Refusal::PRODUCT_TOO_HEAVY;
         }
     }
     Refusal::NONE
@@ -97,12 +93,7 @@ fn produce(both: bool, sign: Sign, a: &[u8], b: &[u8], work: &mut [u8], out: &mu
     }
     let s = pairs::append_all(both, sign, work, a, p.left, b, p.right);
     if work.len() < s.held {
-        let seven = Refusal {
-            number: 7,
-            operand: 0,
-            place: 0,
-        };
-        return lent::refuse(out, seven);
+        return lent::refuse(out, Refusal::ROWS_DO_NOT_FIT);
     }
     let n = joins::collect(work, s.used / 24);
     deliver(work, n, (s.held / 24) as u64, p.modes, out)

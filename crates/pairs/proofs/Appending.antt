@@ -16,7 +16,7 @@ use borrow.Author.Tests.{leb-true, leb-false}
 use Rattle.modes.specs.Words.{bit}
 use Rattle.modes.specs.declared.Term.{Term}
 use Rattle.lent.specs.Bytes.{put}
-use Rattle.lent.specs.Every.{Every}
+use Rattle.modes.specs.Every.{Every}
 use Rattle.lent.specs.Rows.{rowsBytes, rowsAt, Fit}
 use Rattle.lent.proofs.RowLaws.{rows-put-all}
 use Rattle.products.specs.Product.{notEmpty, branching, rowsTimes}

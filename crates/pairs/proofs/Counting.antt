@@ -11,8 +11,8 @@ use lib.ListN.{length, length-append}
 use borrow.Author.Tests.{eqb-true}
 use Rattle.modes.specs.Counts.{count}
 use Rattle.modes.specs.declared.Term.{Term}
-use Rattle.lent.specs.Every.{Every, none, more, Pairwise, nothing, beside}
-use Rattle.lent.proofs.SignedNumbers.{abs-product}
+use Rattle.modes.specs.Every.{Every, none, more, Pairwise, nothing, beside}
+use Rattle.integers.proofs.SignedNumbers.{abs-product}
 use Rattle.products.specs.Operators.{signed}
 use Rattle.products.specs.Product.{Other, choices, notEmpty, branching, minusAt, rowTimes, rowsTimes}
 use Rattle.products.proofs.Multiplied.{rows-none, rows-number}

@@ -11,7 +11,7 @@ use mir.Syntax.{w64}
 use mir.Val.{SFits, toZ, ofZ}
 use mir.Facts.{toZ-ofZ}
 use Rattle.modes.specs.declared.Term.{Term}
-use Rattle.lent.proofs.SignedNumbers.{abs-fits, abs-product}
+use Rattle.integers.proofs.SignedNumbers.{abs-fits, abs-product}
 use Rattle.products.specs.Operators.{signed}
 use Rattle.products.specs.Product.{rowsTimes}
 use Rattle.products.proofs.Signs.{abs-signed}

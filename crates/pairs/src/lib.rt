@@ -70,7 +70,7 @@ fn cancels(x: Term, y: Term) -> bool
     if x.coeff == y.coeff {
         return false;
     }
-    lent::magnitude(x.coeff) == lent::magnitude(y.coeff)
+    integers::magnitude(x.coeff) == integers::magnitude(y.coeff)
 }
 
 // The row in hand cancels the last row, or goes after it.
@@ -125,7 +125,7 @@ fn append_pair(both: bool, sign: Sign, work: &mut [u8], s: Fill, t: Term, u: Ter
     requires { ⌜ Room (now work) s × (natAbs (t .coeff) * natAbs (u .coeff) < 2 ^ 63) ⌝ }
     ensures { λ r. ⌜ Adds (pairRows both (sign .0) t u) (now (work .entry)) s (now (work .exit)) r ⌝ }
 {
-    let coeff = lent::product(t.coeff, u.coeff);
+    let coeff = integers::product(t.coeff, u.coeff);
     if both {
         let swapped = products::signed_coeff(sign, coeff);
         return append_both(work, s, t, u, coeff, swapped);

@@ -15,8 +15,8 @@ use Rattle.modes.specs.Words.{Modes, bit}
 use Rattle.modes.specs.Counts.{count}
 use Rattle.modes.proofs.Bools.{⊕-false, ⊕-self, ⊕-self-left}
 use Rattle.modes.proofs.Lowest.{Less, Lowest, lowest-less, lowest-small}
-use Rattle.lent.specs.Every.{Every, none, more, Pairwise, nothing, beside}
-use Rattle.lent.proofs.Every.{every-implies, every-append, pairwise-append}
+use Rattle.modes.specs.Every.{Every, none, more, Pairwise, nothing, beside}
+use Rattle.modes.proofs.Every.{every-implies, every-append, pairwise-append}
 use Rattle.products.specs.Product.{choices}
 use Rattle.products.proofs.Sums.{Part, part-later, part-more, added}
 

@@ -17,12 +17,12 @@ use Rattle.modes.specs.declared.Written.{Written}
 use Rattle.modes.proofs.Bools.{of-same, at5}
 use Rattle.modes.proofs.Digits.{bit-and, bit-none, ext}
 use Rattle.lent.specs.Bytes.{zeros}
-use Rattle.lent.specs.Every.{Every, none, Pairwise, nothing}
-use Rattle.lent.proofs.Every.{every-map, pairwise-map}
+use Rattle.modes.specs.Every.{Every, none, Pairwise, nothing}
+use Rattle.modes.proofs.Every.{every-map, pairwise-map}
 use Rattle.lent.specs.Rows.{rowsBytes, rowsAt, Fit}
 use Rattle.lent.specs.Outputs.{Output, refusedOutput, filledOutput, Gives}
 use Rattle.lent.proofs.RowLaws.{rows-at}
-use Rattle.lent.proofs.SignedNumbers.{abs-fits}
+use Rattle.integers.proofs.SignedNumbers.{abs-fits}
 use Rattle.products.specs.PhaseRule.{went, term}
 use Rattle.products.specs.Operators.{signed, adds, element}
 use Rattle.products.specs.Product.{branch, Other, choices, notEmpty, branching, creAt, minusAt, rowTimes, rowsTimes, noRoom, multiplied}

@@ -10,7 +10,7 @@ use lib.ListN.{length}
 use Rattle.modes.specs.Bools.{_⊕_}
 use Rattle.modes.specs.Words.{Modes, bit, each}
 use Rattle.modes.specs.Counts.{count, odd, oddExchanges}
-use Rattle.modes.specs.Answers.{refusal}
+use Rattle.modes.specs.Answers.{rowsDoNotFit}
 use Rattle.modes.specs.declared.Term.{Term}
 use Rattle.lent.specs.Rows.{rowsBytes}
 use Rattle.lent.specs.Outputs.{Output, refusedOutput, filledOutput}
@@ -75,4 +75,4 @@ module _ (Lc La Rc Ra : ℕ) where
   multiplied room =
       let rows = rowsTimes (pos 1) in
       let filled = filledOutput room (length rows) (rowsBytes rows) in
-      cond (noRoom room) (refusedOutput room (refusal 7 0 0)) filled
+      cond (noRoom room) (refusedOutput room rowsDoNotFit) filled

@@ -108,7 +108,11 @@ pub fn signed_coeff(sign: Sign, coeff: i64) -> i64
     requires { ⌜ natAbs coeff < 2 ^ 63 ⌝ }
     ensures { λ r. ⌜ r ≡ signed (sign .0) coeff ⌝ }
 {
-    if sign.0 { lent::negated(coeff) } else { coeff }
+    if sign.0 {
+        integers::negated(coeff)
+    } else {
+        coeff
+    }
 }
 
 // The row that keeps the branching mode `mode` too.
@@ -248,10 +252,6 @@ pub fn mul_cmpnts(l_cre: u64, l_ann: u64, r_cre: u64, r_ann: u64, out: &mut [u8]
     if rows_fit(left, out.len()) {
         return write_rows(helper, left, out);
     }
-    let seven = Refusal {
-        number: 7,
-        operand: 0,
-        place: 0,
-    };
-    lent::refuse(out, seven)
+
+    lent::refuse(out, Refusal::ROWS_DO_NOT_FIT)
 }

@@ -11,26 +11,18 @@ use borrow.Author.Tests.{ne-eqb, lt-ltb, eqb-true, eqb-false, ltb-true, leb-true
 use Rattle.modes.specs.declared.Term.{Term}
 use Rattle.modes.specs.declared.Refusal.{Refusal}
 use Rattle.modes.specs.Answers.{refusal, none as unrefused}
-use Rattle.lent.specs.Every.{Every, none, more}
+use Rattle.modes.specs.Every.{Every, none, more}
 use Rattle.record.specs.Terms.{before, Above, Ascending, empty, above, weight}
 use Rattle.record.specs.Layout.{laidOut, modesOf, countOf, termsIn, termsOf}
-use Rattle.record.specs.Refusals.{orElse, inside, termRefusal, termsRefusal, refusalOf, acceptedRecord, refusedRecord, checkedOf}
+use Rattle.modes.specs.Refusals.{orElse}
+use Rattle.modes.specs.Spaces.{inside}
+use Rattle.record.specs.Refusals.{termRefusal, termsRefusal, refusalOf, acceptedRecord, refusedRecord, checkedOf}
 use Rattle.record.specs.Canonical.{Inside, Nonzero, Canonical}
 use Rattle.record.specs.declared.Checked.{Checked}
-use Rattle.record.proofs.Refusals.{or-second}
+use Rattle.modes.proofs.Refusals.{or-second, neither}
 use Rattle.record.proofs.Order.{above-trans}
 use Rattle.record.proofs.Header.{Laid, laid}
 use Rattle.record.proofs.Reading.{length-terms}
-
--- ---- refusals whose number is 0
-
-pub neither : (r s : Refusal) → (orElse r s) .number ≡ 0 → (r .number ≡ 0) × (s .number ≡ 0)
-unfolding orElse
-neither r s e = go (eqb (r .number) 0) refl e
-  where
-    go : (b : Bool) → eqb (r .number) 0 ≡ b → (cond b s r) .number ≡ 0 → (r .number ≡ 0) × (s .number ≡ 0)
-    go true q z = (eqb-true _ _ q, z)
-    go false q z = absurd (eqb-false _ _ q z)
 
 pub abs-zero : (z : ℤ) → natAbs z ≡ 0 → z ≡ pos 0
 abs-zero (pos n) e = ap pos e

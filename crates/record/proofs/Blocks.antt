@@ -14,7 +14,7 @@ use borrow.Author.Tests.{eq-eqb, ne-eqb, lt-ltb, le-ltb, ltb-true, eqb-true}
 use Rattle.modes.specs.declared.Term.{Term}
 use Rattle.modes.proofs.Digits.{lt-or-ge}
 use Rattle.lent.specs.Bytes.{bytes, wordAt}
-use Rattle.lent.specs.Every.{Every, none, more}
+use Rattle.modes.specs.Every.{Every, none, more}
 use Rattle.lent.proofs.Numbers.{length-bytes}
 use Rattle.lent.proofs.NumbersAt.{num-at-below}
 use Rattle.record.specs.Numbers.{stored, numbers}

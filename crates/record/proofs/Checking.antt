@@ -13,11 +13,12 @@ use Rattle.modes.specs.declared.Refusal.{Refusal}
 use Rattle.modes.specs.Answers.{refusal, none}
 use Rattle.record.specs.Terms.{before, weight}
 use Rattle.record.specs.Layout.{laidOut, modesOf, countOf, termsIn}
-use Rattle.record.specs.Refusals.{orElse, termRefusal, termsRefusal, refusalOf, refusedRecord, checkedOf}
+use Rattle.modes.specs.Refusals.{orElse}
+use Rattle.record.specs.Refusals.{termRefusal, termsRefusal, refusalOf, refusedRecord, checkedOf}
 use Rattle.record.specs.Reading.{At}
 use Rattle.record.specs.Weights.{heavierBy}
 use Rattle.record.specs.declared.Checked.{Checked}
-use Rattle.record.proofs.Refusals.{or-first, or-second}
+use Rattle.modes.proofs.Refusals.{or-first, or-second}
 use Rattle.record.proofs.Weights.{Weighs, weighs-start, weighs-more}
 
 pub weight-front : (ts us : List Term) (t : Term) → ts ≡ t ∷ us → weight ts ≡ natAbs (t .coeff) + weight us

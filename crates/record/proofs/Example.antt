@@ -9,7 +9,9 @@ use Rattle.record.specs.Numbers.{stored, numbers, sameNumbers}
 use Rattle.record.specs.Terms.{before, weight}
 use Rattle.record.specs.Layout.{header, column, columns, encode, together, termsIn, termsOf, laidOut}
 use Rattle.record.specs.Example.{example}
-use Rattle.record.specs.Refusals.{orElse, inside, termRefusal, termsRefusal, refusalOf}
+use Rattle.modes.specs.Refusals.{orElse}
+use Rattle.modes.specs.Spaces.{inside}
+use Rattle.record.specs.Refusals.{termRefusal, termsRefusal, refusalOf}
 
 -- {0|0} with 1 and {1|1} with -1
 abbrev pub terms : List Term

@@ -6,12 +6,12 @@ use Prim.Native.Nat.{ℕ, _+_, _*_, _≤_, _<_}
 use lib.Dec.{eqb, leb}
 use lib.ListN.{length}
 use borrow.Author.Tests.{eq-eqb, ne-eqb, le-leb, lt-leb, eqb-true, leb-true}
-use Rattle.modes.specs.Spaces.{spaceOf}
+use Rattle.modes.specs.Spaces.{spaceOf, isMade}
 use Rattle.modes.specs.declared.MadeSpace.{MadeSpace}
 use Rattle.modes.specs.declared.MadeSpace.the-variants.{Made, Refused}
 use Rattle.modes.proofs.Bools.{and-l, and-r}
 use Rattle.record.specs.Numbers.{numbers, sameNumbers}
-use Rattle.record.specs.Layout.{fields, modesOf, countOf, isMade, laidOut}
+use Rattle.record.specs.Layout.{fields, modesOf, countOf, laidOut}
 use Rattle.record.proofs.Numbers.{same-numbers}
 
 pub record Laid (l : List ℕ) : Type 0 where

@@ -16,8 +16,8 @@ use mir.Facts.{toZ-ofZ, ofZ-toZ, fits-ofZ}
 use Rattle.modes.specs.declared.Term.{Term}
 use Rattle.modes.specs.Answers.{none as unrefused}
 use Rattle.lent.specs.Bytes.{wordAt}
-use Rattle.lent.specs.Every.{Every, none, more}
-use Rattle.lent.proofs.Every.{every-implies, every-both, every-map}
+use Rattle.modes.specs.Every.{Every, none, more}
+use Rattle.modes.proofs.Every.{every-implies, every-both, every-map}
 use Rattle.lent.specs.Rows.{Fit}
 use Rattle.lent.proofs.NumbersAt.{num-at-below}
 use Rattle.lent.proofs.RowLaws.{term-of}
@@ -27,7 +27,7 @@ use Rattle.record.specs.Layout.{fields, header, column, columns, bitsOf,
 use Rattle.record.specs.Refusals.{refusalOf}
 use Rattle.record.specs.Canonical.{Inside, Canonical}
 use Rattle.record.proofs.Numbers.{length-stored, numbers-stored, stored-numbers, numbers-same}
-use Rattle.record.proofs.Refusals.{or-second}
+use Rattle.modes.proofs.Refusals.{or-second}
 use Rattle.record.proofs.Header.{Laid}
 use Rattle.record.proofs.Reading.{columnsAt, termAt, length-terms}
 use Rattle.record.proofs.Accepted.{Begins, none-refused, accepted-laid}

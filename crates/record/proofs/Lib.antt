@@ -11,6 +11,5 @@ pub mod Coefficients
 pub mod SameElements
 pub mod Columns
 pub mod Blocks
-pub mod Surveys
 pub mod Example
 pub mod Unique

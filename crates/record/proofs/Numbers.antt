@@ -15,7 +15,7 @@ use Rattle.lent.specs.Bytes.{bytes, numAt, put}
 use Rattle.lent.proofs.Numbers.{length-bytes, num-bytes}
 use Rattle.lent.proofs.NumbersAt.{num-at, bytes-at}
 use Rattle.lent.proofs.Puts.{put-join}
-use Rattle.lent.specs.Every.{Every, none, more}
+use Rattle.modes.specs.Every.{Every, none, more}
 use Rattle.record.specs.Numbers.{stored, numbers, sameNumbers}
 
 pub length-stored : (w : ℕ) (xs : List ℕ) → length (stored w xs) ≡ w * length xs

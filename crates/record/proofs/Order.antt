@@ -10,7 +10,7 @@ use borrow.Author.Tests.{eq-eqb, lt-ltb, le-ltb, eqb-true, ltb-true}
 use Rattle.modes.specs.declared.Term.{Term}
 use Rattle.modes.proofs.Bools.{and-l, and-r}
 use Rattle.modes.proofs.Digits.{lt-or-ge}
-use Rattle.lent.specs.Every.{none, more}
+use Rattle.modes.specs.Every.{none, more}
 use Rattle.record.specs.Terms.{before, Above}
 
 -- how two terms stand to each other

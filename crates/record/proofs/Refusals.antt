@@ -1,4 +1,4 @@
--- The first refusal of several, and the refusal of one term, case by case.
+-- The refusal of one term, case by case.
 use mathlib.Core.Path.{_≡_}
 use mathlib.Core.Bool.{Bool, true, false, _&&_}
 use mathlib.Core.Logic.{_⊎_, inl, inr}
@@ -12,25 +12,9 @@ use Rattle.modes.specs.declared.Term.{Term}
 use Rattle.modes.specs.declared.Refusal.{Refusal}
 use Rattle.modes.specs.Answers.{refusal, none}
 use Rattle.modes.proofs.Digits.{lt-or-ge}
-use Rattle.record.specs.Refusals.{orElse, inside, termRefusal}
-
-pub or-first : (r s : Refusal) → (r .number ≡ 0 → ⊥) → orElse r s ≡ r
-unfolding orElse
-or-first r s h = rw (ne-eqb (r .number) 0 h)
-
-pub or-second : (r s : Refusal) → r .number ≡ 0 → orElse r s ≡ s
-unfolding orElse
-or-second r s h = rw (eq-eqb (r .number) 0 h)
-
--- two words hold only modes below m exactly if their union does
-pub inside-both : (m cre ann : ℕ) → ltb (bitOr ann cre) (2 ^ m) ≡ inside m cre ann
-unfolding inside
-inside-both m cre ann = go (lt-or-ge ann (2 ^ m)) (lt-or-ge cre (2 ^ m))
-  where
-    go : (ann < 2 ^ m) ⊎ (2 ^ m ≤ ann) → (cre < 2 ^ m) ⊎ (2 ^ m ≤ cre) → ltb (bitOr ann cre) (2 ^ m) ≡ ltb ann (2 ^ m) && ltb cre (2 ^ m)
-    go (inl h) (inl k) = rw (lt-ltb _ _ h, lt-ltb _ _ k) (lt-ltb _ _ (or-lt m ann cre h k))
-    go (inl h) (inr k) = rw (lt-ltb _ _ h, le-ltb _ _ k) (le-ltb (bitOr ann cre) (2 ^ m) (omega (arith, or-add-and ann cre, and-le-l ann cre)))
-    go (inr h) k = rw (le-ltb _ _ h) (le-ltb (bitOr ann cre) (2 ^ m) (omega (arith, or-add-and ann cre, and-le-r ann cre)))
+use Rattle.modes.specs.Refusals.{orElse}
+use Rattle.modes.specs.Spaces.{inside}
+use Rattle.record.specs.Refusals.{termRefusal}
 
 module _ (o m i : ℕ) (up : Bool) (t : Term) where
   pub outside : inside m (t .cre) (t .ann) ≡ false → refusal 2 o i ≡ termRefusal o m i up t

@@ -21,15 +21,15 @@ use Rattle.modes.proofs.Bools.{⊕-false, false-⊕, ⊕-self, and-l, and-r}
 use Rattle.modes.proofs.Sets.{each-all, each-at}
 use Rattle.modes.proofs.Digits.{lt-or-ge, bit-above, ext}
 use Rattle.modes.proofs.Counts.{count-le}
-use Rattle.lent.specs.Every.{Every, none, more}
-use Rattle.lent.proofs.Every.{every-implies}
+use Rattle.modes.specs.Every.{Every, none, more}
+use Rattle.modes.proofs.Every.{every-implies}
 use Rattle.products.specs.PhaseRule.{gone, went}
 use Rattle.products.specs.Operators.{signed, adds, part, element}
 use Rattle.products.proofs.Signs.{signed-zero, signed-add}
 use Rattle.products.specs.Product.{signOf}
 use Rattle.products.proofs.ClosedForm.{fit, acts, acts-is, term-is}
 use Rattle.record.specs.Terms.{before, Ascending, empty, above}
-use Rattle.record.specs.Figures.{annihilations}
+use Rattle.modes.specs.Terms.{annihilations}
 use Rattle.record.specs.Coefficients.{coeffIn, coeffOf}
 use Rattle.record.specs.Canonical.{Inside, Nonzero, Canonical}
 use Rattle.record.proofs.Coefficients.{same-terms}

@@ -5,8 +5,6 @@ use mathlib.Core.List.{List, _∷_}
 use Prim.Native.Nat.{ℕ, _+_, _^_, _≤_}
 use lib.IntN.{natAbs}
 use lib.ListN.{drop}
-use Rattle.modes.specs.Words.{bit}
-use Rattle.modes.specs.Counts.{count}
 use Rattle.modes.specs.declared.Term.{Term}
 use Rattle.lent.specs.Bytes.{put}
 use Rattle.record.specs.Terms.{before}
@@ -15,11 +13,8 @@ use Rattle.record.specs.Refusals.{checkedOf}
 use Rattle.record.specs.Reading.{At}
 use Rattle.record.specs.Weights.{heavierBy}
 use Rattle.record.specs.Blocks.{countIf, earlier, blockOf, bytesIn}
-use Rattle.record.specs.Figures.{rankOf, conservesOf, maxNBodyOf, activeModesOf}
 use Rattle.record.specs.declared.Checked.{Checked}
 use Rattle.record.specs.declared.Stretch.{Stretch}
-use Rattle.record.specs.declared.Tested.{Tested}
-use Rattle.record.specs.declared.Measured.{Measured}
 
 -- what equals one value is one
 pub one : {A : Type 0} {x r s : A} → r ≡ x → s ≡ x → r ≡ s
@@ -55,18 +50,3 @@ one-stretch l a r s = one
 
 pub one-block : (l : List ℕ) (a : ℕ) (r s : List ℕ) → r ≡ bytesIn (blockOf l a) l → s ≡ bytesIn (blockOf l a) l → r ≡ s
 one-block l a r s = one
-
-pub one-count : (w r s : ℕ) → (r ≡ count 64 (bit w)) × (r ≤ 64) → (s ≡ count 64 (bit w)) × (s ≤ 64) → r ≡ s
-one-count w r s p q = one (p .0) (q .0)
-
-pub one-rank : (t : Term) (r s : ℕ) → r ≡ rankOf t → s ≡ rankOf t → r ≡ s
-one-rank t r s = one
-
-pub one-conserving : (l : List ℕ) (r s : Tested) → r ≡ conservesOf l → s ≡ conservesOf l → r ≡ s
-one-conserving l r s = one
-
-pub one-largest-rank : (l : List ℕ) (r s : Measured) → r ≡ maxNBodyOf l → s ≡ maxNBodyOf l → r ≡ s
-one-largest-rank l r s = one
-
-pub one-union : (l : List ℕ) (r s : Measured) → r ≡ activeModesOf l → s ≡ activeModesOf l → r ≡ s
-one-union l r s = one

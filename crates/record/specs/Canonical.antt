@@ -5,7 +5,7 @@ use mathlib.Core.List.{List}
 use lib.IntN.{pos}
 use lib.ListN.{length}
 use Rattle.modes.specs.declared.Term.{Term}
-use Rattle.lent.specs.Every.{Every}
+use Rattle.modes.specs.Every.{Every}
 use Rattle.record.specs.Terms.{Ascending, weight}
 
 pub record Inside (m : ℕ) (t : Term) : Type 0 where

@@ -9,7 +9,7 @@ use mir.Val.{toZ, ofZ}
 use Rattle.modes.specs.declared.Term.{Term}
 use Rattle.modes.specs.declared.MadeSpace.{MadeSpace}
 use Rattle.modes.specs.declared.MadeSpace.the-variants.{Made, Refused}
-use Rattle.modes.specs.Spaces.{spaceOf}
+use Rattle.modes.specs.Spaces.{spaceOf, isMade}
 use Rattle.lent.specs.Bytes.{bytes, halfAt, put}
 use Rattle.record.specs.Numbers.{stored, numbers, sameNumbers}
 
@@ -54,10 +54,6 @@ termsIn l n = together (numbers 8 l 32 n) (numbers 8 l (32 + 8 * n) n) (numbers 
 
 abbrev pub termsOf : List ℕ → List Term
 termsOf l = termsIn l (countOf l)
-
-abbrev pub isMade : MadeSpace → Bool
-isMade (Made s) = true
-isMade Refused = false
 
 -- header, length, mode count and number of terms keep the rules
 unfoldable pub laidOut : List ℕ → Bool

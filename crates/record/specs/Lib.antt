@@ -7,5 +7,4 @@ pub mod Canonical
 pub mod Reading
 pub mod Weights
 pub mod Blocks
-pub mod Figures
 pub mod Example

@@ -4,20 +4,14 @@ use mathlib.Core.Bool.{Bool, true, cond, _&&_}
 use mathlib.Core.List.{List, [], _∷_}
 use lib.Dec.{eqb, ltb, leb}
 use lib.IntN.{natAbs}
+use Rattle.modes.specs.Refusals.{orElse}
+use Rattle.modes.specs.Spaces.{inside}
 use Rattle.modes.specs.declared.Term.{Term}
 use Rattle.modes.specs.declared.Refusal.{Refusal}
 use Rattle.modes.specs.Answers.{refusal, none}
 use Rattle.record.specs.Terms.{before, weight}
 use Rattle.record.specs.Layout.{laidOut, modesOf, countOf, termsOf}
 use Rattle.record.specs.declared.Checked.{Checked}
-
--- r, or s where r refuses nothing
-unfoldable pub orElse : Refusal → Refusal → Refusal
-orElse r s = cond (eqb (r .number) 0) s r
-
--- both words hold only modes below m
-unfoldable pub inside : ℕ → ℕ → ℕ → Bool
-inside m cre ann = ltb ann (2 ^ m) && ltb cre (2 ^ m)
 
 -- 2, 3 and 4 of the i-th term; up says that it is the first or above the one before it
 unfoldable pub termRefusal : ℕ → ℕ → ℕ → Bool → Term → Refusal

@@ -6,7 +6,7 @@ use mathlib.Core.List.{List, [], _∷_}
 use lib.Dec.{eqb, ltb}
 use lib.IntN.{natAbs}
 use Rattle.modes.specs.declared.Term.{Term}
-use Rattle.lent.specs.Every.{Every}
+use Rattle.modes.specs.Every.{Every}
 
 -- t stands before u: by annihilations, then by creations
 unfoldable pub before : Term → Term → Bool

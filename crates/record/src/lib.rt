@@ -1,5 +1,4 @@
-// The record: its check, the reading and writing of its terms, the stretch of one annihilation word, and what its terms
-// have in common.
+// The record: its check, the reading and writing of its terms, and the stretch of one annihilation word.
 use modes::MadeSpace;
 use modes::ModeSpace;
 use modes::Refusal;
@@ -10,21 +9,17 @@ ghost use Prim.Native.Nat.{_+_, _*_, _-_, _≤_, _<_, _^_, max};
 ghost use lib.IntN.{natAbs};
 ghost use lib.ListN.{length};
 ghost use Rattle.lent.specs.Bytes.{put};
-ghost use Rattle.modes.specs.Words.{bit};
-ghost use Rattle.modes.specs.Counts.{count};
 ghost use Rattle.modes.specs.Answers.{refusal, none};
 ghost use Rattle.record.specs.Numbers.{numbers, sameNumbers};
 ghost use Rattle.record.specs.Terms.{before, Ascending};
 ghost use Rattle.record.specs.Layout.{fields, header, modesOf, countOf, termsIn, termsOf, laidOut, putTerm};
-ghost use Rattle.record.specs.Refusals.{inside, termRefusal, refusalOf, refusedRecord, checkedOf};
+ghost use Rattle.modes.specs.Spaces.{inside};
+ghost use Rattle.record.specs.Refusals.{termRefusal, refusalOf, refusedRecord, checkedOf};
 ghost use Rattle.record.specs.Reading.{At};
 ghost use Rattle.record.specs.Weights.{heavierBy};
 ghost use Rattle.record.specs.Blocks.{countIf, earlier, annBelow, blockOf, bytesIn};
-ghost use Rattle.record.specs.Figures.{rankOf, conserves, figuresOf, conservesOf, maxNBodyOf, activeModesOf};
 
-// The most terms and the largest weight that a record may have.
-pub const MOST_TERMS: usize = 2048;
-
+// The largest weight that a record may have.
 pub const HEAVIEST: u64 = 1_152_921_504_606_846_976;
 
 // What the check found: the refusal, or none with the record's modes, terms and weight, which are 0 after a refusal.
@@ -58,12 +53,6 @@ pub struct Stretch {
 pub struct Tested {
     pub refusal: Refusal,
     pub holds: bool,
-}
-
-// A number found in a record; 0 where it is refused.
-pub struct Measured {
-    pub refusal: Refusal,
-    pub value: u64,
 }
 
 // Is the header that of m modes and n terms?
@@ -110,7 +99,7 @@ fn laid_out(s: &[u8]) -> bool
     let MadeSpace::Made(_) = ModeSpace::from_count(m as u64) else {
         return false;
     };
-    if MOST_TERMS < n {
+    if modes::MOST_TERMS < n {
         return false;
     }
     header_is(s, m, n)
@@ -123,7 +112,7 @@ pub fn read_term(s: &[u8], n: usize, i: usize) -> Term
 {
     let ann = lent::word(s, 32 + 8 * i);
     let cre = lent::word(s, 32 + 8 * n + 8 * i);
-    let coeff = lent::signed(lent::word(s, 32 + 16 * n + 8 * i));
+    let coeff = integers::signed(lent::word(s, 32 + 16 * n + 8 * i));
     Term { cre, ann, coeff }
 }
 
@@ -154,21 +143,14 @@ fn follows(first: bool, last: Term, t: Term) -> bool
 pub fn size(t: Term) -> u64
     ensures { λ r. ⌜ (r ≡ natAbs (t .coeff)) × (r ≤ 2 ^ 63) ⌝ }
 {
-    lent::magnitude(t.coeff)
-}
-
-// Do both words hold only modes of the space?
-pub fn is_inside(space: ModeSpace, cre: u64, ann: u64) -> bool
-    ensures { λ r. ⌜ r ≡ inside (space .count) cre ann ⌝ }
-{
-    space.contains(ann | cre)
+    integers::magnitude(t.coeff)
 }
 
 // Numbers 2, 3 and 4 of the term t at `place`; `up` says that it is the first or above the one before it.
 fn term_refusal(space: ModeSpace, operand: u64, place: u64, up: bool, t: Term) -> Refusal
     ensures { λ r. ⌜ r ≡ termRefusal operand (space .count) place up t ⌝ }
 {
-    if !is_inside(space, t.cre, t.ann) {
+    if !modes::is_inside(space, t.cre, t.ann) {
         return Refusal {
             number: 2,
             operand,
@@ -279,7 +261,7 @@ pub fn put_term(out: &mut [u8], n: usize, k: usize, t: Term)
 {
     lent::put_word(out, 32 + 8 * k, t.ann);
     lent::put_word(out, 32 + 8 * n + 8 * k, t.cre);
-    lent::put_word(out, 32 + 16 * n + 8 * k, lent::bits(t.coeff));
+    lent::put_word(out, 32 + 16 * n + 8 * k, integers::bits(t.coeff));
 }
 
 // How many of the n terms stand before t, found by halving.
@@ -357,116 +339,4 @@ pub fn block(s: &[u8], ann: u64) -> &[u8]
     let start = b.start;
     let end = start + b.len;
     &s[start..end]
-}
-
-// How many modes the word holds.
-pub fn modes_in(word: u64) -> u64
-    ensures { λ r. ⌜ (r ≡ count 64 (bit word)) × (r ≤ 64) ⌝ }
-{
-    u64::count_ones(word) as u64
-}
-
-// The rank of a term: creations plus annihilations, halved, rounded down.
-pub fn rank(t: Term) -> u64
-    ensures { λ r. ⌜ r ≡ rankOf t ⌝ }
-{
-    (modes_in(t.cre) + modes_in(t.ann)) / 2
-}
-
-fn is_conserving(t: Term) -> bool
-    ensures { λ r. ⌜ r ≡ conserves t ⌝ }
-{
-    modes_in(t.cre) == modes_in(t.ann)
-}
-
-fn larger(x: u64, y: u64) -> u64
-    ensures { λ r. ⌜ r ≡ max x y ⌝ }
-{
-    if x < y { y } else { x }
-}
-
-// What the terms of a record have in common: conservation, the largest rank, and all modes.
-struct Figures {
-    refusal: Refusal,
-    conserving: bool,
-    rank: u64,
-    modes: u64,
-}
-
-// The figures of n terms, in one walk.
-fn survey_terms(s: &[u8], n: usize) -> Figures
-    requires { ⌜ 32 + 24 * n ≤ length (now s) ⌝ }
-    ensures { λ r. ⌜ r ≡ figuresOf none (termsIn (now (s .entry)) n) ⌝ }
-{
-    let mut conserving = true;
-    let mut largest = 0;
-    let mut modes = 0;
-    let mut i = 0;
-    while i < n {
-        let t = read_term(s, n, i);
-        conserving = conserving & is_conserving(t);
-        largest = larger(largest, rank(t));
-        modes = modes | (t.cre | t.ann);
-        i += 1;
-    }
-    Figures {
-        refusal: Refusal::NONE,
-        conserving,
-        rank: largest,
-        modes,
-    }
-}
-
-// The figures of a record, or its refusal.
-fn survey(s: &[u8]) -> Figures
-    ensures { λ r. ⌜ r ≡ figuresOf (refusalOf 1 (now (s .entry))) (termsOf (now (s .entry))) ⌝ }
-{
-    let c = check(s, 1);
-    if c.refusal.number != 0 {
-        let refusal = c.refusal;
-        return Figures {
-            refusal,
-            conserving: false,
-            rank: 0,
-            modes: 0,
-        };
-    }
-    let n = c.terms;
-    survey_terms(s, n)
-}
-
-// Has every term as many creations as annihilations?
-pub fn conserves_particle_number(s: &[u8]) -> Tested
-    ensures { λ r. ⌜ r ≡ conservesOf (now (s .entry)) ⌝ }
-{
-    let f = survey(s);
-    let refusal = f.refusal;
-    Tested {
-        refusal,
-        holds: f.conserving,
-    }
-}
-
-// The largest rank of the terms, 0 for no terms.
-pub fn max_n_body(s: &[u8]) -> Measured
-    ensures { λ r. ⌜ r ≡ maxNBodyOf (now (s .entry)) ⌝ }
-{
-    let f = survey(s);
-    let refusal = f.refusal;
-    Measured {
-        refusal,
-        value: f.rank,
-    }
-}
-
-// The union of all words.
-pub fn active_modes(s: &[u8]) -> Measured
-    ensures { λ r. ⌜ r ≡ activeModesOf (now (s .entry)) ⌝ }
-{
-    let f = survey(s);
-    let refusal = f.refusal;
-    Measured {
-        refusal,
-        value: f.modes,
-    }
 }

@@ -14,10 +14,12 @@ use Rattle.modes.specs.Answers.{refusal, none}
 use Rattle.lent.specs.Outputs.{Output, refusedOutput, filledOutput}
 use Rattle.record.specs.Terms.{before, weight}
 use Rattle.record.specs.Layout.{laidOut, encode, modesOf, countOf, termsOf}
-use Rattle.record.specs.Refusals.{orElse, inside, termRefusal, termsRefusal, refusalOf}
+use Rattle.modes.specs.Refusals.{orElse}
+use Rattle.modes.specs.Spaces.{inside}
+use Rattle.record.specs.Refusals.{termRefusal, termsRefusal, refusalOf}
 use Rattle.record.proofs.Header.{laid}
 use Rattle.record.proofs.Reading.{length-terms}
-use Rattle.record.proofs.Refusals.{or-first}
+use Rattle.modes.proofs.Refusals.{or-first}
 use Rattle.lincomb.specs.Results.{pairRefusal, resultRefusal, recordOutput}
 use Rattle.multiply.specs.Answers.{weightRefusal, workRefusal, commutatorOf}
 use Rattle.stream.specs.Lines.{refusedLine}

@@ -16,9 +16,10 @@ use Rattle.lent.specs.Bytes.{num, numAt}
 use Rattle.lent.specs.Outputs.{Output, Gives, refusedOutput}
 use Rattle.record.specs.Numbers.{numbers}
 use Rattle.record.specs.Layout.{laidOut, modesOf, countOf, termsOf}
-use Rattle.record.specs.Refusals.{orElse, refusalOf}
+use Rattle.modes.specs.Refusals.{orElse}
+use Rattle.record.specs.Refusals.{refusalOf}
 use Rattle.record.proofs.Header.{Laid, laid}
-use Rattle.record.proofs.Refusals.{or-first, or-second}
+use Rattle.modes.proofs.Refusals.{or-first, or-second}
 use Rattle.lincomb.specs.Normal.{normal}
 use Rattle.lincomb.specs.Results.{pairRefusal}
 use Rattle.lincomb.proofs.Results.{refused-earlier}

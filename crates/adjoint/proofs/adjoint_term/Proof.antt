@@ -3,7 +3,7 @@ use mathlib.Core.Path.{ap, _∙_}
 use mir.Facts.{toZ-ofZ}
 use mir.Syntax.{w64}
 use mir.Val.{SFits}
-use Rattle.lent.proofs.SignedNumbers.{abs-fits}
+use Rattle.integers.proofs.SignedNumbers.{abs-fits}
 use Rattle.products.specs.Operators.{signed}
 use Rattle.adjoint.proofs.Terms.{adjoint-made}
 use borrow.Author.Needs.{needs}

@@ -3,7 +3,7 @@ use Prim.Native.Nat.{_-_, _≤_}
 use native.Mathlib.Omega.{arith}
 use lib.ListN.{take}
 use borrow.Author.Tests.{not-true, not-false}
-use Rattle.lent.specs.Every.{none}
+use Rattle.modes.specs.Every.{none}
 use Rattle.record.specs.Layout.{termsIn}
 use Rattle.record.proofs.Reading.{length-terms}
 use Rattle.adjoint.specs.Hermitian.{Paired}

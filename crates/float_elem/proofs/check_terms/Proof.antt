@@ -6,8 +6,8 @@ use native.Mathlib.Omega.{arith}
 use borrow.Author.Needs.{needs}
 use lib.ListN.{length}
 use Rattle.modes.specs.Answers.{none}
-use Rattle.mat_elem.specs.Refusals.{firstRefusal}
-use Rattle.mat_elem.proofs.FirstRefusals.{first-starts, first-goes, first-ends, first-stays}
+use Rattle.modes.specs.Refusals.{firstRefusal}
+use Rattle.modes.proofs.FirstRefusals.{first-starts, first-goes, first-ends, first-stays}
 use Rattle.float_elem.specs.Elements.{termAt}
 use Rattle.float_elem.proofs.Checking.{no-number}
 use Rattle.float_elem.proofs.check_terms.Statement.{statement}

@@ -1,7 +1,7 @@
 -- `float_elem::is_listed` meets its contract.
 use mathlib.Core.Path.{sym, ap, _∙_}
 use borrow.Author.Needs.{needs}
-use Rattle.record.specs.Layout.{isMade}
+use Rattle.modes.specs.Spaces.{isMade}
 use Rattle.float_elem.proofs.Checking.{no-space, too-many, other-ann, other-re, im-decides}
 use Rattle.float_elem.proofs.is_listed.Statement.{statement}
 use Rattle.float_elem.proofs.is_listed.Tie as tie

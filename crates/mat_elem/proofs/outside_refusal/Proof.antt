@@ -4,10 +4,10 @@ use native.Mathlib.Omega.{arith}
 use Prim.Native.Nat.{_-_, _≤_}
 use lib.ListN.{length, getD}
 use Rattle.modes.specs.Answers.{none}
-use Rattle.mat_elem.specs.Refusals.{firstRefusal}
+use Rattle.modes.specs.Refusals.{firstRefusal}
 use Rattle.mat_elem.specs.Matrix.{outsideAt}
-use Rattle.mat_elem.proofs.Words.{word-none}
-use Rattle.mat_elem.proofs.FirstRefusals.{first-starts, first-goes, first-ends, first-stays}
+use Rattle.modes.proofs.Spaces.{word-none}
+use Rattle.modes.proofs.FirstRefusals.{first-starts, first-goes, first-ends, first-stays}
 use borrow.Author.Needs.{needs}
 use Rattle.mat_elem.proofs.outside_refusal.Statement.{statement}
 use Rattle.mat_elem.proofs.outside_refusal.Tie as tie

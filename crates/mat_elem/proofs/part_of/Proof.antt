@@ -5,7 +5,7 @@ use native.Mathlib.Nat.{le-refl}
 use mir.Facts.{toZ-ofZ}
 use mir.Syntax.{w64}
 use mir.Val.{SFits, toZ, ofZ}
-use Rattle.lent.proofs.SignedNumbers.{abs-fits}
+use Rattle.integers.proofs.SignedNumbers.{abs-fits}
 use Rattle.products.specs.Operators.{signed}
 use Rattle.products.proofs.Signs.{abs-signed}
 use Rattle.mat_elem.proofs.Summing.{part-zero, part-other, part-here}

@@ -4,9 +4,9 @@ use Prim.Native.Nat.{_-_, _≤_}
 use native.Mathlib.Omega.{arith}
 use lib.ListN.{length}
 use Rattle.modes.specs.Answers.{none}
-use Rattle.mat_elem.specs.Refusals.{firstRefusal}
+use Rattle.modes.specs.Refusals.{firstRefusal}
 use Rattle.mat_elem.specs.Matrix.{repeatAt}
-use Rattle.mat_elem.proofs.FirstRefusals.{first-starts, first-goes, first-ends, first-stays}
+use Rattle.modes.proofs.FirstRefusals.{first-starts, first-goes, first-ends, first-stays}
 use borrow.Author.Needs.{needs}
 use Rattle.mat_elem.proofs.repeat_refusal.Statement.{statement}
 use Rattle.mat_elem.proofs.repeat_refusal.Tie as tie

@@ -5,7 +5,7 @@ use mir.Facts.{toZ-ofZ}
 use mir.Syntax.{w64}
 use mir.Val.{SFits, toZ, ofZ}
 use Rattle.modes.specs.Bools.{_⊕_}
-use Rattle.lent.proofs.SignedNumbers.{abs-fits}
+use Rattle.integers.proofs.SignedNumbers.{abs-fits}
 use Rattle.lent.proofs.RowLaws.{term-of}
 use Rattle.products.specs.Operators.{signed}
 use Rattle.products.specs.Walk.{keeping}

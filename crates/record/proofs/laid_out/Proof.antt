@@ -1,9 +1,9 @@
 -- `record::laid_out` meets its contract.
 use mathlib.Core.Path.{ap₂, sym, ap, _∙_}
 use Prim.Native.Nat.{ℕ}
-use Rattle.modes.specs.Spaces.{spaceOf}
+use Rattle.modes.specs.Spaces.{spaceOf, isMade}
 use Rattle.record.specs.Numbers.{numbers, sameNumbers}
-use Rattle.record.specs.Layout.{fields, isMade}
+use Rattle.record.specs.Layout.{fields}
 use native.Mathlib.Omega.{arith}
 use Rattle.record.proofs.Header.{other-length, no-space, too-many, header-decides}
 use borrow.Author.Needs.{needs}
