@@ -7,16 +7,18 @@ use native.Mathlib.Omega.{arith}
 use native.Mathlib.Nat.{max-zero, zero-max}
 use lib.Bits.{bitOr, or-zero-l, or-zero-r}
 use borrow.Author.Tests.{ne-eqb}
+use Rattle.modes.proofs.Refusals.{unless-not, unless-so}
+use Rattle.record.specs.Operands.{readAs}
 use Rattle.modes.specs.Words.{bit}
 use Rattle.modes.specs.declared.Term.{Term}
 use Rattle.modes.specs.Answers.{none}
 use Rattle.modes.proofs.Digits.{bit-or, ext}
-use Rattle.figures.specs.Figures.{conserves, conserving, rankOf, largestRank, allModes, figuresOf}
+use Rattle.figures.specs.Figures.{conserves, conserving, rankOf, largestRank, allModes, figuresOf, figuresIn, noFigures}
 use Rattle.record.specs.Layout.{termsIn, termsOf}
 use Rattle.record.specs.Refusals.{refusalOf, checkedOf}
 use Rattle.figures.specs.declared.Figures.{Figures}
 use Rattle.record.specs.declared.Checked.{Checked}
-use Rattle.record.proofs.Accepted.{Accepted, refused}
+use Rattle.record.proofs.Accepted.{Accepted, refused, refusal-told}
 
 and-assoc : (a b c : Bool) → (a && b) && c ≡ a && (b && c)
 and-assoc true b c = refl
@@ -55,7 +57,7 @@ survey-goes ts left rest t e c d r s m g ed es =
     top = omega arith
 
 pub survey-ends : (ts left : List Term) → left ≡ [] → (c : Bool) (r m : ℕ) → Surveying ts left c r m
-    → _≡_ {A = Figures} (record { refusal = none; conserving = c; rank = r; modes = m }) (figuresOf none ts)
+    → _≡_ {A = Figures} (record { refusal = none; conserving = c; rank = r; modes = m }) (figuresIn ts)
 unfolding conserving largestRank allModes
 survey-ends ts left e c r m g =
     let a : c ≡ conserving ts = sym (and-true c) ∙ sym (ap (λ (us : List Term). c && conserving us) e) ∙ g .conserving in
@@ -63,10 +65,8 @@ survey-ends ts left e c r m g =
     let d : m ≡ allModes ts = sym (or-zero-r m) ∙ sym (ap (λ (us : List Term). bitOr m (allModes us)) e) ∙ g .modes in
     rw (a, b, d)
 
-pub survey-refused : (l : List ℕ) (c : Checked) → c ≡ checkedOf 1 l → (c .refusal .number ≡ 0 → ⊥)
-    → _≡_ {A = Figures} (record { refusal = c .refusal; conserving = false; rank = 0; modes = 0 }) (figuresOf (refusalOf 1 l) (termsOf l))
-survey-refused l c e h =
-    let r : refusalOf 1 l ≡ c .refusal = sym (ap (λ (d : Checked). d .refusal) (refused 1 l c e h)) in rw (r, ne-eqb _ _ h)
+pub survey-refused : (l : List ℕ) (c : Checked) → c ≡ checkedOf 1 l → (c .refusal .number ≡ 0 → ⊥) → noFigures (c .refusal) ≡ figuresOf (readAs 1 l)
+survey-refused l c e h = rw (refusal-told 1 l c e) (sym (unless-so (refusalOf 1 l) noFigures _ (refused 1 l c e h)))
 
-pub survey-accepted : (l : List ℕ) (c : Checked) → Accepted 1 l c → figuresOf none (termsIn l (c .terms)) ≡ figuresOf (refusalOf 1 l) (termsOf l)
-survey-accepted l c k = rw (k .none, k .terms)
+pub survey-accepted : (l : List ℕ) (c : Checked) → Accepted 1 l c → figuresIn (termsIn l (c .terms)) ≡ figuresOf (readAs 1 l)
+survey-accepted l c k = rw (k .terms) (sym (unless-not (refusalOf 1 l) noFigures _ (k .number)))

@@ -1,6 +1,6 @@
 -- No two answers meet a promise of this crate.
 use mathlib.Core.Path.{_≡_}
-use mathlib.Core.List.{List}
+use Rattle.record.specs.Operands.{Operand}
 use Prim.Native.Nat.{ℕ, _≤_}
 use Rattle.modes.specs.declared.Term.{Term}
 use Rattle.modes.proofs.Unique.{one}
@@ -11,11 +11,11 @@ use Rattle.figures.specs.declared.Measured.{Measured}
 pub one-rank : (t : Term) (r s : ℕ) → (r ≡ rankOf t) × (r ≤ 64) → (s ≡ rankOf t) × (s ≤ 64) → r ≡ s
 one-rank t r s p q = one (p .0) (q .0)
 
-pub one-conserving : (l : List ℕ) (r s : Tested) → r ≡ conservesOf l → s ≡ conservesOf l → r ≡ s
-one-conserving l r s = one
+pub one-conserving : (a : Operand) (r s : Tested) → r ≡ conservesOf a → s ≡ conservesOf a → r ≡ s
+one-conserving a r s = one
 
-pub one-largest-rank : (l : List ℕ) (r s : Measured) → r ≡ maxNBodyOf l → s ≡ maxNBodyOf l → r ≡ s
-one-largest-rank l r s = one
+pub one-largest-rank : (a : Operand) (r s : Measured) → r ≡ maxNBodyOf a → s ≡ maxNBodyOf a → r ≡ s
+one-largest-rank a r s = one
 
-pub one-union : (l : List ℕ) (r s : Measured) → r ≡ activeModesOf l → s ≡ activeModesOf l → r ≡ s
-one-union l r s = one
+pub one-union : (a : Operand) (r s : Measured) → r ≡ activeModesOf a → s ≡ activeModesOf a → r ≡ s
+one-union a r s = one

@@ -9,8 +9,9 @@ use Rattle.modes.specs.Words.{bit}
 use Rattle.modes.specs.Counts.{count}
 use Rattle.modes.specs.declared.Term.{Term}
 use Rattle.modes.specs.declared.Refusal.{Refusal}
-use Rattle.record.specs.Layout.{termsOf}
-use Rattle.record.specs.Refusals.{refusalOf}
+use Rattle.modes.specs.Answers.{none}
+use Rattle.modes.specs.Refusals.{unless}
+use Rattle.record.specs.Operands.{Operand}
 use Rattle.figures.specs.declared.Figures.{Figures}
 use Rattle.record.specs.declared.Tested.{Tested}
 use Rattle.figures.specs.declared.Measured.{Measured}
@@ -37,18 +38,22 @@ unfoldable pub allModes : List Term → ℕ
 allModes [] = 0
 allModes (t ∷ ts) = bitOr (bitOr (t .cre) (t .ann)) (allModes ts)
 
--- the three together, all false and 0 after the refusal r
-abbrev pub figuresOf : Refusal → List Term → Figures
-figuresOf r ts =
-    let ok = eqb (r .number) 0 in
-    record { refusal = r; conserving = ok && conserving ts; rank = cond ok (largestRank ts) 0; modes = cond ok (allModes ts) 0 }
+-- the three together, all false and 0 after a refusal
+abbrev pub noFigures : Refusal → Figures
+noFigures r = record { refusal = r; conserving = false; rank = 0; modes = 0 }
+
+abbrev pub figuresIn : List Term → Figures
+figuresIn ts = record { refusal = none; conserving = conserving ts; rank = largestRank ts; modes = allModes ts }
+
+abbrev pub figuresOf : Operand → Figures
+figuresOf a = unless (a .refusal) noFigures (figuresIn (a .terms))
 
 -- what each call answers of a record
-abbrev pub conservesOf : List ℕ → Tested
-conservesOf l = let f = figuresOf (refusalOf 1 l) (termsOf l) in record { refusal = f .refusal; holds = f .conserving }
+abbrev pub conservesOf : Operand → Tested
+conservesOf a = let f = figuresOf a in record { refusal = f .refusal; holds = f .conserving }
 
-abbrev pub maxNBodyOf : List ℕ → Measured
-maxNBodyOf l = let f = figuresOf (refusalOf 1 l) (termsOf l) in record { refusal = f .refusal; value = f .rank }
+abbrev pub maxNBodyOf : Operand → Measured
+maxNBodyOf a = let f = figuresOf a in record { refusal = f .refusal; value = f .rank }
 
-abbrev pub activeModesOf : List ℕ → Measured
-activeModesOf l = let f = figuresOf (refusalOf 1 l) (termsOf l) in record { refusal = f .refusal; value = f .modes }
+abbrev pub activeModesOf : Operand → Measured
+activeModesOf a = let f = figuresOf a in record { refusal = f .refusal; value = f .modes }

@@ -5,10 +5,9 @@ use record::Tested;
 ghost use mathlib.Core.Path.{_≡_};
 ghost use Prim.Native.Nat.{_+_, _*_, _≤_, max};
 ghost use lib.ListN.{length};
-ghost use Rattle.modes.specs.Answers.{none};
-ghost use Rattle.record.specs.Layout.{termsIn, termsOf};
-ghost use Rattle.record.specs.Refusals.{refusalOf};
-ghost use Rattle.figures.specs.Figures.{rankOf, conserves, figuresOf, conservesOf, maxNBodyOf, activeModesOf};
+ghost use Rattle.record.specs.Layout.{termsIn};
+ghost use Rattle.record.specs.Operands.{readAs};
+ghost use Rattle.figures.specs.Figures.{rankOf, conserves, figuresIn, figuresOf, conservesOf, maxNBodyOf, activeModesOf};
 
 // A number found in a record; 0 where it is refused.
 pub struct Measured {
@@ -46,7 +45,7 @@ struct Figures {
 // The figures of n terms, in one walk.
 fn survey_terms(s: &[u8], n: usize) -> Figures
     requires { ⌜ 32 + 24 * n ≤ length (now s) ⌝ }
-    ensures { λ r. ⌜ r ≡ figuresOf none (termsIn (now (s .entry)) n) ⌝ }
+    ensures { λ r. ⌜ r ≡ figuresIn (termsIn (now (s .entry)) n) ⌝ }
 {
     let mut conserving = true;
     let mut largest = 0;
@@ -69,7 +68,7 @@ fn survey_terms(s: &[u8], n: usize) -> Figures
 
 // The figures of a record, or its refusal.
 fn survey(s: &[u8]) -> Figures
-    ensures { λ r. ⌜ r ≡ figuresOf (refusalOf 1 (now (s .entry))) (termsOf (now (s .entry))) ⌝ }
+    ensures { λ r. ⌜ r ≡ figuresOf (readAs 1 (now (s .entry))) ⌝ }
 {
     let c = record::check(s, 1);
     if c.refusal.number != 0 {
@@ -87,7 +86,7 @@ fn survey(s: &[u8]) -> Figures
 
 // Has every term as many creations as annihilations?
 pub fn conserves_particle_number(s: &[u8]) -> Tested
-    ensures { λ r. ⌜ r ≡ conservesOf (now (s .entry)) ⌝ }
+    ensures { λ r. ⌜ r ≡ conservesOf (readAs 1 (now (s .entry))) ⌝ }
 {
     let f = survey(s);
     let refusal = f.refusal;
@@ -99,7 +98,7 @@ pub fn conserves_particle_number(s: &[u8]) -> Tested
 
 // The largest rank of the terms, 0 for no terms.
 pub fn max_n_body(s: &[u8]) -> Measured
-    ensures { λ r. ⌜ r ≡ maxNBodyOf (now (s .entry)) ⌝ }
+    ensures { λ r. ⌜ r ≡ maxNBodyOf (readAs 1 (now (s .entry))) ⌝ }
 {
     let f = survey(s);
     let refusal = f.refusal;
@@ -111,7 +110,7 @@ pub fn max_n_body(s: &[u8]) -> Measured
 
 // The union of all words.
 pub fn active_modes(s: &[u8]) -> Measured
-    ensures { λ r. ⌜ r ≡ activeModesOf (now (s .entry)) ⌝ }
+    ensures { λ r. ⌜ r ≡ activeModesOf (readAs 1 (now (s .entry))) ⌝ }
 {
     let f = survey(s);
     let refusal = f.refusal;

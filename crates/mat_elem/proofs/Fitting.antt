@@ -11,6 +11,7 @@ use lib.ListN.{length, getD, replicate, length-append, length-map, length-replic
 use borrow.Author.Tests.{eqb-true}
 use mir.Syntax.{w64}
 use mir.Val.{SFits}
+use Rattle.record.specs.Operands.{readAs}
 use Rattle.modes.specs.Answers.{none}
 use Rattle.modes.specs.Sums.{sumOf}
 use Rattle.modes.specs.declared.Term.{Term}
@@ -21,7 +22,7 @@ use Rattle.products.proofs.Signs.{abs-signed}
 use Rattle.record.specs.Terms.{weight}
 use Rattle.record.specs.Layout.{modesOf, termsOf}
 use Rattle.record.specs.Refusals.{refusalOf}
-use Rattle.modes.proofs.Refusals.{neither}
+use Rattle.modes.proofs.Refusals.{neither, either-way}
 use Rattle.record.proofs.Accepted.{accepted-canonical}
 use Rattle.mat_elem.specs.Matrix.{EightNumbers, EightRows, upToEight, rowOf, zeroRow, matrixOf, basisRefusal, refusedMatrix, projectedRefusal, projectedOf}
 use Rattle.mat_elem.proofs.Projecting.{basis-short}
@@ -93,13 +94,10 @@ zero-rows : EightRows (replicate 8 zeroRow)
 zero-rows =
     record { count = refl; each = λ i h. each-replicate (λ x. zeroRow) zeroRow EightNumbers (λ x. zero-numbers) zero-numbers 8 i _ h }
 
-pub projected-rows : (a basis : List ℕ) → EightRows ((projectedOf a basis) .rows)
-unfolding projectedOf projectedRefusal
-projected-rows a basis = go (eqb ((projectedRefusal a basis) .number) 0) refl
-  where
-    go : (s : Bool) → eqb ((projectedRefusal a basis) .number) 0 ≡ s
-        → EightRows ((cond s (record { refusal = none; rows = matrixOf (termsOf a) basis }) (refusedMatrix (projectedRefusal a basis))) .rows)
-    go true q =
-        let both = neither (refusalOf 1 a) (basisRefusal (modesOf a) basis) (eqb-true _ _ q) in
-        matrix-rows (termsOf a) (accepted-canonical 1 a (both .0) .light) basis (basis-short (modesOf a) basis (both .1))
-    go false q = zero-rows
+pub projected-rows : (a basis : List ℕ) → EightRows ((projectedOf (readAs 1 a) basis) .rows)
+projected-rows a basis =
+    either-way (projectedRefusal (readAs 1 a) basis) refusedMatrix _ (λ p. EightRows (p .rows))
+    (λ z.
+    let both = neither (refusalOf 1 a) (basisRefusal (modesOf a) basis) z in
+    matrix-rows (termsOf a) (accepted-canonical 1 a (both .0) .light) basis (basis-short (modesOf a) basis (both .1)))
+    (λ h. zero-rows)

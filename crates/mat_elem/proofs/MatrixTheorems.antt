@@ -9,14 +9,15 @@ use lib.Dec.{eqb, ltb}
 use lib.IntN.{pos}
 use lib.ListN.{length, getD, replicate}
 use borrow.Author.Tests.{eq-eqb, eqb-true}
+use Rattle.record.specs.Operands.{readAs}
 use Rattle.modes.specs.Answers.{none}
 use Rattle.modes.specs.declared.Term.{Term}
 use Rattle.modes.proofs.Digits.{lt-or-ge}
 use Rattle.products.specs.Operators.{element}
 use Rattle.record.specs.Layout.{modesOf, termsOf}
-use Rattle.modes.specs.Refusals.{orElse}
+use Rattle.modes.specs.Refusals.{orElse, unless}
 use Rattle.record.specs.Refusals.{refusalOf}
-use Rattle.modes.proofs.Refusals.{neither}
+use Rattle.modes.proofs.Refusals.{neither, not-refused}
 use Rattle.record.proofs.Accepted.{accepted-none}
 use Rattle.mat_elem.specs.Elements.{elementRefusal, elementOf}
 use Rattle.mat_elem.specs.Matrix.{outsideAt, basisRefusal, rowOf, zeroRow, matrixOf, entryAt, refusedMatrix, projectedRefusal, projectedOf}
@@ -65,27 +66,18 @@ module _ (ts : List Term) (basis : List ℕ) where
 
 -- ---- a basis that is not refused
 
-module _ (a basis : List ℕ) (r : Projected) (e : r ≡ projectedOf a basis) (ok : r .refusal .number ≡ 0) where
-  fine : (projectedRefusal a basis) .number ≡ 0
-  unfolding projectedOf
-  fine = go (eqb ((projectedRefusal a basis) .number) 0) refl e
-    where
-      go : (s : Bool) → eqb ((projectedRefusal a basis) .number) 0 ≡ s
-          → r ≡ cond s (record { refusal = none; rows = matrixOf (termsOf a) basis }) (refusedMatrix (projectedRefusal a basis)) → (projectedRefusal a basis) .number ≡ 0
-      go true q p = eqb-true _ _ q
-      go false q p = ap (λ (x : Projected). x .refusal .number) (sym p) ∙ ok
+module _ (a basis : List ℕ) (r : Projected) (e : r ≡ projectedOf (readAs 1 a) basis) (ok : r .refusal .number ≡ 0) where
+  found : ((projectedRefusal (readAs 1 a) basis) .number ≡ 0) × (r ≡ record { refusal = none; rows = matrixOf (termsOf a) basis })
+  found = not-refused (projectedRefusal (readAs 1 a) basis) refusedMatrix _ (λ p. p .refusal) refl r e ok
 
   rows : r .rows ≡ matrixOf (termsOf a) basis
-  unfolding projectedOf
-  rows = ap (λ (x : Projected). x .rows) e ∙ rw (eq-eqb _ _ fine)
+  rows = ap (λ (x : Projected). x .rows) (found .1)
 
   accepted : (refusalOf 1 a) .number ≡ 0
-  unfolding projectedRefusal
-  accepted = neither _ _ fine .0
+  accepted = neither _ _ (found .0) .0
 
   basis-fine : (basisRefusal (modesOf a) basis) .number ≡ 0
-  unfolding projectedRefusal
-  basis-fine = neither _ _ fine .1
+  basis-fine = neither _ _ (found .0) .1
 
   inside : (i : ℕ) → i < length basis → ltb (getD basis i 0) (2 ^ modesOf a) ≡ true
   unfolding basisRefusal
@@ -95,8 +87,8 @@ module _ (a basis : List ℕ) (r : Projected) (e : r ≡ projectedOf a basis) (o
 
   -- at two basis words the entry is what `element` answers at this bra and ket
   pub entry-is : (i j : ℕ) → i < length basis → j < length basis
-      → elementOf a (getD basis i 0) (getD basis j 0) ≡ record { refusal = none; value = entryAt (r .rows) i j }
-  unfolding elementOf elementRefusal orElse
+      → elementOf (readAs 1 a) (getD basis i 0) (getD basis j 0) ≡ record { refusal = none; value = entryAt (r .rows) i j }
+  unfolding orElse unless
   entry-is i j h k =
       rw (accepted-none 1 a accepted, inside i h, inside j k)
       (λ t. record { refusal = none; value = (sym (used-entry (termsOf a) basis i j h k) ∙ ap (λ (x : List Row). entryAt x i j) (sym rows)) t })

@@ -7,16 +7,17 @@ use native.Mathlib.Omega.{arith}
 use lib.Dec.{leb}
 use lib.ListN.{length}
 use borrow.Author.Tests.{eq-eqb, ne-eqb, le-leb, lt-leb, leb-true}
+use Rattle.record.specs.Operands.{readAs}
 use Rattle.modes.specs.Answers.{refusal, none}
 use Rattle.modes.specs.declared.Refusal.{Refusal}
 use Rattle.modes.specs.declared.Term.{Term}
 use Rattle.record.specs.Terms.{weight}
-use Rattle.record.specs.Layout.{termsIn, termsOf}
+use Rattle.record.specs.Layout.{termsIn, termsOf, modesOf}
 use Rattle.modes.specs.Refusals.{orElse, firstRefusal}
 use Rattle.record.specs.Refusals.{refusalOf, checkedOf}
 use Rattle.record.specs.declared.Checked.{Checked}
-use Rattle.modes.proofs.Refusals.{or-first, or-second, neither}
-use Rattle.record.proofs.Accepted.{Accepted, accepted, readable, refused}
+use Rattle.modes.proofs.Refusals.{or-first, or-second, neither, second-refuses, neither-refuses, first-refuses}
+use Rattle.record.proofs.Accepted.{Accepted, accepted, readable, refused, refusal-told}
 use Rattle.mat_elem.specs.Matrix.{outsideAt, repeatAt, basisRefusal, matrixOf, refusedMatrix, projectedRefusal, projectedOf}
 use Rattle.mat_elem.specs.declared.Projected.{Projected}
 
@@ -50,37 +51,26 @@ module _ (m : ℕ) (basis : List ℕ) where
 
 -- ---- the call
 
-module _ (a basis : List ℕ) where
-  turned-down : (r : Refusal) → projectedRefusal a basis ≡ r → (r .number ≡ 0 → ⊥) → refusedMatrix r ≡ projectedOf a basis
-  unfolding projectedOf
-  turned-down r e n = rw (e, ne-eqb (r .number) 0 n)
+module _ (a basis : List ℕ) (c : Checked) (e : c ≡ checkedOf 1 a) where
+  pub operator-refused : (c .refusal .number ≡ 0 → ⊥) → refusedMatrix (c .refusal) ≡ projectedOf (readAs 1 a) basis
+  operator-refused n = rw (refusal-told 1 a c e) (first-refuses (refusalOf 1 a) _ refusedMatrix _ (refused 1 a c e n))
 
-  module _ (c : Checked) (e : c ≡ checkedOf 1 a) where
-    pub operator-refused : (c .refusal .number ≡ 0 → ⊥) → refusedMatrix (c .refusal) ≡ projectedOf a basis
-    unfolding projectedRefusal
-    operator-refused n =
-        let q : c .refusal ≡ refusalOf 1 a = ap (λ (d : Checked). d .refusal) (refused 1 a c e n) in
-        turned-down (c .refusal) (or-first (refusalOf 1 a) _ (subst (λ (r : Refusal). r .number ≡ 0 → ⊥) q n) ∙ sym q) n
+  module _ (z : c .refusal .number ≡ 0) (r : Refusal) (f : r ≡ basisRefusal (c .modes) basis) where
+    ok : Accepted 1 a c
+    ok = accepted 1 a c e z
 
-    module _ (z : c .refusal .number ≡ 0) (r : Refusal) (f : r ≡ basisRefusal (c .modes) basis) where
-      ok : Accepted 1 a c
-      ok = accepted 1 a c e z
+    of-basis : r ≡ basisRefusal (modesOf a) basis
+    of-basis = f ∙ ap (λ (d : Checked). basisRefusal (d .modes) basis) (ok .is)
 
-      of-basis : projectedRefusal a basis ≡ r
-      unfolding projectedRefusal
-      of-basis = rw (ok .none) (or-second none _ refl ∙ sym (f ∙ ap (λ (d : Checked). basisRefusal (d .modes) basis) (ok .is)))
+    pub basis-refused : (r .number ≡ 0 → ⊥) → refusedMatrix r ≡ projectedOf (readAs 1 a) basis
+    basis-refused n = rw of-basis (second-refuses (refusalOf 1 a) _ refusedMatrix _ (ok .number) (rw of-basis at n))
 
-      pub basis-refused : (r .number ≡ 0 → ⊥) → refusedMatrix r ≡ projectedOf a basis
-      basis-refused n = turned-down r of-basis n
+    module _ (y : r .number ≡ 0) where
+      pub to-project : (32 + 24 * c .terms ≤ length a) × (weight (termsIn a (c .terms)) ≤ 2 ^ 60) × (length basis ≤ 8)
+      to-project =
+          (readable 1 a c ok .0, rw (ok .terms) (ok .canonical .light), basis-short (c .modes) basis (ap (λ (x : Refusal). x .number) (sym f) ∙ y))
 
-      module _ (y : r .number ≡ 0) where
-        pub to-project : (32 + 24 * c .terms ≤ length a) × (weight (termsIn a (c .terms)) ≤ 2 ^ 60) × (length basis ≤ 8)
-        to-project =
-            (readable 1 a c ok .0, rw (ok .terms) (ok .canonical .light), basis-short (c .modes) basis (ap (λ (x : Refusal). x .number) (sym f) ∙ y))
-
-        pub projected : (p : Projected) → (p .refusal ≡ none) × (p .rows ≡ matrixOf (termsIn a (c .terms)) basis) → p ≡ projectedOf a basis
-        unfolding projectedOf
-        projected p g =
-            let n : (projectedRefusal a basis) .number ≡ 0 = ap (λ (x : Refusal). x .number) of-basis ∙ y in
-            let rows : p .rows ≡ matrixOf (termsOf a) basis = g .1 ∙ ap (λ (ts : List Term). matrixOf ts basis) (ok .terms) in
-            rw (eq-eqb _ _ n) (λ i. record { refusal = g .0 i; rows = rows i })
+      pub projected : (p : Projected) → (p .refusal ≡ none) × (p .rows ≡ matrixOf (termsIn a (c .terms)) basis) → p ≡ projectedOf (readAs 1 a) basis
+      projected p g =
+          let rows : p .rows ≡ matrixOf (termsOf a) basis = g .1 ∙ ap (λ (ts : List Term). matrixOf ts basis) (ok .terms) in
+          (λ i. record { refusal = g .0 i; rows = rows i }) ∙ neither-refuses (refusalOf 1 a) _ refusedMatrix _ (ok .number) (rw of-basis at y)

@@ -12,9 +12,8 @@ use Rattle.modes.specs.Answers.{refusal, none}
 use Rattle.modes.specs.declared.Refusal.{Refusal}
 use Rattle.modes.specs.declared.Term.{Term}
 use Rattle.products.specs.Operators.{element}
-use Rattle.record.specs.Layout.{modesOf, termsOf}
-use Rattle.modes.specs.Refusals.{orElse, firstRefusal}
-use Rattle.record.specs.Refusals.{refusalOf}
+use Rattle.modes.specs.Refusals.{orElse, firstRefusal, unless}
+use Rattle.record.specs.Operands.{Operand}
 use Rattle.modes.specs.Spaces.{wordRefusal}
 use Rattle.mat_elem.specs.declared.Row.{Row}
 use Rattle.mat_elem.specs.declared.Projected.{Projected}
@@ -60,13 +59,12 @@ abbrev pub refusedMatrix : Refusal → Projected
 refusedMatrix r = record { refusal = r; rows = replicate 8 zeroRow }
 
 -- the operator's refusals, then the basis's
-unfoldable pub projectedRefusal : List ℕ → List ℕ → Refusal
-projectedRefusal a basis = orElse (refusalOf 1 a) (basisRefusal (modesOf a) basis)
+abbrev pub projectedRefusal : Operand → List ℕ → Refusal
+projectedRefusal a basis = orElse (a .refusal) (basisRefusal (a .modes) basis)
 
-unfoldable pub projectedOf : List ℕ → List ℕ → Projected
+abbrev pub projectedOf : Operand → List ℕ → Projected
 projectedOf a basis =
-    let found : Projected = record { refusal = none; rows = matrixOf (termsOf a) basis } in
-    cond (eqb ((projectedRefusal a basis) .number) 0) found (refusedMatrix (projectedRefusal a basis))
+    let found : Projected = record { refusal = none; rows = matrixOf (a .terms) basis } in unless (projectedRefusal a basis) refusedMatrix found
 
 -- what the type of a matrix says: eight rows of eight signed numbers of 64 bits
 pub record EightNumbers (r : Row) : Type 0 where

@@ -11,6 +11,7 @@ ghost use Rattle.products.specs.Operators.{part, element};
 ghost use Rattle.modes.specs.Answers.{none};
 ghost use Rattle.record.specs.Terms.{weight};
 ghost use Rattle.record.specs.Layout.{termsIn};
+ghost use Rattle.record.specs.Operands.{readAs};
 ghost use Rattle.modes.specs.Refusals.{firstRefusal};
 ghost use Rattle.modes.specs.Spaces.{wordRefusal, wordsRefusal};
 ghost use Rattle.mat_elem.specs.Elements.{refusedElement, elementOf};
@@ -61,7 +62,7 @@ fn sum_parts(s: &[u8], n: usize, bra: u64, ket: u64) -> i64
 
 // The exact element of the record at (bra, ket): the operator is checked first, then the bra, then the ket.
 pub fn element(a: &[u8], bra: u64, ket: u64) -> Exact
-    ensures { λ r. ⌜ r ≡ elementOf (now (a .entry)) bra ket ⌝ }
+    ensures { λ r. ⌜ r ≡ elementOf (readAs 1 (now (a .entry))) bra ket ⌝ }
 {
     let c = record::check(a, 1);
     if c.refusal.number != 0 {
@@ -209,7 +210,7 @@ fn project(a: &[u8], n: usize, basis: &[u64]) -> Projected
 // The record's elements between the words of a basis: row the bra, column the ket. The record is checked once, then the
 // basis.
 pub fn mat_ortho_projected(a: &[u8], basis: &[u64]) -> Projected
-    ensures { λ r. ⌜ r ≡ projectedOf (now (a .entry)) (now (basis .entry)) ⌝ }
+    ensures { λ r. ⌜ r ≡ projectedOf (readAs 1 (now (a .entry))) (now (basis .entry)) ⌝ }
 {
     let c = record::check(a, 1);
     if c.refusal.number != 0 {

@@ -51,3 +51,20 @@ module _ {A : Type 0} (r : Refusal) (refused : Refusal → A) (answer : A) where
   -- what holds of the answer where nothing refuses, and of what is answered to the refusal where it does, holds of what is given
   pub either-way : (P : A → Type 0) → (r .number ≡ 0 → P answer) → ((r .number ≡ 0 → ⊥) → P (refused r)) → P (unless r refused answer)
   either-way P accepted other = by-number r (λ z. rw (unless-not z) (accepted z)) (λ h. rw (unless-so h) (other h))
+
+  -- an answer that tells its refusal and tells none is the answer, and nothing refuses
+  pub not-refused : (told : A → Refusal) → told (refused r) ≡ r → (x : A) → x ≡ unless r refused answer → told x .number ≡ 0 → (r .number ≡ 0) × (x ≡ answer)
+  not-refused told same x e ok =
+      by-number r (λ z. (z, e ∙ unless-not z))
+      (λ h. absurd (h (ap (λ (f : Refusal). f .number) (sym same) ∙ ap (λ (y : A). told y .number) (sym (e ∙ unless-so h)) ∙ ok)))
+
+-- two refusals in order, and then the answer
+module _ {A : Type 0} (r s : Refusal) (refused : Refusal → A) (answer : A) where
+  pub first-refuses : (r .number ≡ 0 → ⊥) → refused r ≡ unless (orElse r s) refused answer
+  first-refuses h = sym (rw (or-first r s h) (unless-so r refused answer h))
+
+  pub second-refuses : r .number ≡ 0 → (s .number ≡ 0 → ⊥) → refused s ≡ unless (orElse r s) refused answer
+  second-refuses z h = sym (rw (or-second r s z) (unless-so s refused answer h))
+
+  pub neither-refuses : r .number ≡ 0 → s .number ≡ 0 → answer ≡ unless (orElse r s) refused answer
+  neither-refuses z y = sym (rw (or-second r s z) (unless-not s refused answer y))

@@ -19,7 +19,7 @@ use Rattle.modes.specs.Spaces.{inside}
 use Rattle.record.specs.Refusals.{termRefusal, termsRefusal, refusalOf, acceptedRecord, refusedRecord, checkedOf}
 use Rattle.record.specs.Canonical.{Inside, Nonzero, Canonical}
 use Rattle.record.specs.declared.Checked.{Checked}
-use Rattle.modes.proofs.Refusals.{or-second, neither}
+use Rattle.modes.proofs.Refusals.{or-second, neither, not-refused, either-way}
 use Rattle.record.proofs.Order.{above-trans}
 use Rattle.record.proofs.Header.{Laid, laid}
 use Rattle.record.proofs.Reading.{length-terms}
@@ -152,6 +152,7 @@ module _ (o : ℕ) (l : List ℕ) (e : (refusalOf o l) .number ≡ 0) where
 
 -- a check that found none
 pub record Accepted (o : ℕ) (l : List ℕ) (c : Checked) : Type 0 where
+  pub number : (refusalOf o l) .number ≡ 0
   pub laid : Laid l
   pub canonical : Canonical (modesOf l) (termsOf l)
   pub none : refusalOf o l ≡ unrefused
@@ -160,31 +161,29 @@ pub record Accepted (o : ℕ) (l : List ℕ) (c : Checked) : Type 0 where
   pub terms : termsIn l (c .terms) ≡ termsOf l
 
 pub accepted : (o : ℕ) (l : List ℕ) (c : Checked) → c ≡ checkedOf o l → c .refusal .number ≡ 0 → Accepted o l c
-unfolding checkedOf
-accepted o l c e z = go (eqb ((refusalOf o l) .number) 0) refl e
-  where
-    go : (b : Bool) → eqb ((refusalOf o l) .number) 0 ≡ b → c ≡ cond b (acceptedRecord l) (refusedRecord (refusalOf o l)) → Accepted o l c
-    go true q p =
-        let n = eqb-true _ _ q in
-        record {
-          laid = accepted-laid o l n;
-          canonical = accepted-canonical o l n;
-          none = accepted-none o l n;
-          is = p;
-          terms = ap (λ (d : Checked). termsIn l (d .terms)) p;
-        }
-    go false q p = absurd (eqb-false _ _ q (ap (λ (d : Checked). d .refusal .number) (sym p) ∙ z))
+accepted o l c e z =
+    let found = not-refused (refusalOf o l) refusedRecord (acceptedRecord l) (λ d. d .refusal) refl c e z in
+    let n = found .0 in
+    record {
+      number = n;
+      laid = accepted-laid o l n;
+      canonical = accepted-canonical o l n;
+      none = accepted-none o l n;
+      is = found .1;
+      terms = ap (λ (d : Checked). termsIn l (d .terms)) (found .1);
+    }
 
 -- its terms can be read, and they ascend
 pub readable : (o : ℕ) (l : List ℕ) (c : Checked) → Accepted o l c → (32 + 24 * c .terms ≤ length l) × Ascending (termsIn l (c .terms))
 readable o l c k =
     (omega (arith, k .laid .size, ap (λ (d : Checked). d .terms) (k .is)), rw (k .terms) (k .canonical .ascending))
 
+-- a check tells the record's refusal
+pub refusal-told : (o : ℕ) (l : List ℕ) (c : Checked) → c ≡ checkedOf o l → c .refusal ≡ refusalOf o l
+refusal-told o l c e =
+    ap (λ (d : Checked). d .refusal) e
+    ∙ either-way (refusalOf o l) refusedRecord (acceptedRecord l) (λ d. d .refusal ≡ refusalOf o l) (λ z. sym (accepted-none o l z)) (λ h. refl)
+
 -- a check that refuses
-pub refused : (o : ℕ) (l : List ℕ) (c : Checked) → c ≡ checkedOf o l → (c .refusal .number ≡ 0 → ⊥) → c ≡ refusedRecord (refusalOf o l)
-unfolding checkedOf
-refused o l c e h = go (eqb ((refusalOf o l) .number) 0) refl e
-  where
-    go : (b : Bool) → eqb ((refusalOf o l) .number) 0 ≡ b → c ≡ cond b (acceptedRecord l) (refusedRecord (refusalOf o l)) → c ≡ refusedRecord (refusalOf o l)
-    go true q p = absurd (h (ap (λ (d : Checked). d .refusal .number) p))
-    go false q p = p
+pub refused : (o : ℕ) (l : List ℕ) (c : Checked) → c ≡ checkedOf o l → (c .refusal .number ≡ 0 → ⊥) → (refusalOf o l) .number ≡ 0 → ⊥
+refused o l c e h z = h (ap (λ (r : Refusal). r .number) (refusal-told o l c e) ∙ z)

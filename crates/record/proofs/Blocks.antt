@@ -11,6 +11,7 @@ use lib.Dec.{eqb, ltb}
 use lib.ListN.{length, take, drop, take-append-drop}
 use lib.Seq.{drop-nil, take-nil, take-take, drop-drop, take-append-add, drop-append-add}
 use borrow.Author.Tests.{eq-eqb, ne-eqb, lt-ltb, le-ltb, ltb-true, eqb-true}
+use Rattle.modes.proofs.Refusals.{unless-so, unless-not, either-way}
 use Rattle.modes.specs.declared.Term.{Term}
 use Rattle.modes.proofs.Digits.{lt-or-ge}
 use Rattle.lent.specs.Bytes.{bytes, wordAt}
@@ -180,13 +181,11 @@ pub stretch-some : (n f p : ℕ) → (f ≡ p → ⊥) → _≡_ {A = Stretch} (
 stretch-some n f p h = rw (ne-eqb _ _ h)
 
 pub block-refused : (l : List ℕ) (a : ℕ) → ((refusalOf 1 l) .number ≡ 0 → ⊥) → emptyStretch ≡ blockOf l a
-unfolding blockOf
-block-refused l a h = rw (ne-eqb _ _ h)
+block-refused l a h = sym (unless-so (refusalOf 1 l) _ _ h)
 
 pub block-found : (l : List ℕ) (a : ℕ) (c : Checked) → Accepted 1 l c → (f p : ℕ) → f ≡ countIf (annBelow a) (termsIn l (c .terms))
     → p ≡ countIf (annBelow (a + 1)) (termsIn l (c .terms)) → stretch (c .terms) f p ≡ blockOf l a
-unfolding blockOf
-block-found l a c k f p ef ep = rw (k .none, ef, ep, k .terms, ap (λ (d : Checked). d .terms) (k .is))
+block-found l a c k f p ef ep = rw (ef, ep, k .terms, ap (λ (d : Checked). d .terms) (k .is)) (sym (unless-not (refusalOf 1 l) _ _ (k .number)))
 
 pub block-bounded : (l : List ℕ) (a : ℕ) (c : Checked) → Accepted 1 l c → (f p : ℕ) → f ≡ countIf (annBelow a) (termsIn l (c .terms))
     → p ≡ countIf (annBelow (a + 1)) (termsIn l (c .terms)) → (c .terms ≤ 2048) × (f ≤ p) × (p ≤ c .terms)
@@ -196,22 +195,20 @@ block-bounded l a c k f p ef ep = (
   omega (arith, past-inside l (c .terms) (a + 1)),
 )
 
+abbrev Within : List ℕ → Stretch → Type 0
+Within l s = s .start + s .len ≤ length l
+
 -- the stretch lies within the record
 pub block-inside : (l : List ℕ) (a : ℕ) → (blockOf l a) .start + (blockOf l a) .len ≤ length l
-unfolding blockOf
-block-inside l a = go (eqb ((refusalOf 1 l) .number) 0) refl (eqb (blockFirst l a) (blockPast l a))
+block-inside l a =
+    either-way (refusalOf 1 l) (λ _. emptyStretch) (stretch (countOf l) (blockFirst l a) (blockPast l a)) (Within l) (λ z. go z (eqb (blockFirst l a) (blockPast l a)))
+    (λ h. zero-le)
   where
-    go : (b : Bool) → eqb ((refusalOf 1 l) .number) 0 ≡ b → (d : Bool)
-        → (cond b (cond d emptyStretch (record { start = 32 + 8 * countOf l + 8 * blockFirst l a; len = 8 * (blockPast l a - blockFirst l a) })) emptyStretch) .start
-        + (cond b (cond d emptyStretch (record { start = 32 + 8 * countOf l + 8 * blockFirst l a; len = 8 * (blockPast l a - blockFirst l a) })) emptyStretch) .len
-        ≤ length l
-    go true e true = zero-le
-    go true e false =
-        let k = accepted-laid 1 l (eqb-true _ _ e) .size in
-        let p = past-inside l (countOf l) (a + 1) in
-        let f = first-below-past a (termsOf l) in
-        omega arith
-    go false e d = zero-le
+    go : (refusalOf 1 l) .number ≡ 0 → (d : Bool)
+        → Within l (cond d emptyStretch (record { start = 32 + 8 * countOf l + 8 * blockFirst l a; len = 8 * (blockPast l a - blockFirst l a) }))
+    go z true = zero-le
+    go z false =
+        omega (arith, accepted-laid 1 l z .size, past-inside l (countOf l) (a + 1), first-below-past a (termsOf l))
 
 -- ---- what stands there
 
@@ -296,9 +293,8 @@ stretch-bytes l n f p e h k = go (eqb f p) refl
 
 -- THE BLOCK. Of an accepted record it is the creations of exactly the terms with that annihilation word, in their order
 pub block-words : (l : List ℕ) (a : ℕ) → Small l → (refusalOf 1 l) .number ≡ 0 → bytesIn (blockOf l a) l ≡ column (λ t. t .cre) (having a (termsOf l))
-unfolding blockOf
 block-words l a small e =
     let size = accepted-laid 1 l e .size in
     let whole = creations-read l small (countOf l) (omega arith) in
-    rw (eq-eqb _ _ e, having-is a (termsOf l) (accepted-canonical 1 l e .ascending))
+    rw (unless-not (refusalOf 1 l) _ _ e, having-is a (termsOf l) (accepted-canonical 1 l e .ascending))
     (stretch-bytes l (countOf l) (blockFirst l a) (blockPast l a) whole (first-below-past a (termsOf l)) (past-inside l (countOf l) (a + 1)))

@@ -1,5 +1,5 @@
 -- The check's walk over the terms: what holds between two turns, and what each way out shows.
-use mathlib.Core.Path.{_≡_, refl, _∙_}
+use mathlib.Core.Path.{_≡_, refl, _∙_, sym}
 use mathlib.Core.Bool.{Bool, true, false, _||_}
 use mathlib.Core.List.{List, [], _∷_}
 use Prim.Native.Nat.{ℕ, suc, _+_, _^_, _≤_, _<_}
@@ -14,11 +14,11 @@ use Rattle.modes.specs.Answers.{refusal, none}
 use Rattle.record.specs.Terms.{before, weight}
 use Rattle.record.specs.Layout.{laidOut, modesOf, countOf, termsIn}
 use Rattle.modes.specs.Refusals.{orElse}
-use Rattle.record.specs.Refusals.{termRefusal, termsRefusal, refusalOf, refusedRecord, checkedOf}
+use Rattle.record.specs.Refusals.{termRefusal, termsRefusal, refusalOf, refusedRecord, checkedOf, acceptedRecord}
 use Rattle.record.specs.Reading.{At}
 use Rattle.record.specs.Weights.{heavierBy}
 use Rattle.record.specs.declared.Checked.{Checked}
-use Rattle.modes.proofs.Refusals.{or-first, or-second}
+use Rattle.modes.proofs.Refusals.{or-first, or-second, unless-so, unless-not}
 use Rattle.record.proofs.Weights.{Weighs, weighs-start, weighs-more}
 
 pub weight-front : (ts us : List Term) (t : Term) → ts ≡ t ∷ us → weight ts ≡ natAbs (t .coeff) + weight us
@@ -67,8 +67,7 @@ module _ (o m : ℕ) (ts : List Term) where
 -- ---- the answers
 
 pub refused-is : (o : ℕ) (l : List ℕ) (r : Refusal) → refusalOf o l ≡ r → (r .number ≡ 0 → ⊥) → refusedRecord r ≡ checkedOf o l
-unfolding checkedOf
-refused-is o l r e h = rw (e, ne-eqb _ _ h)
+refused-is o l r e h = sym (rw e (unless-so r refusedRecord (acceptedRecord l) h))
 
 pub not-laid : (o : ℕ) (l : List ℕ) → laidOut l ≡ false → refusalOf o l ≡ refusal 1 o 0
 unfolding refusalOf
@@ -88,8 +87,8 @@ module _ (o : ℕ) (l : List ℕ) (m n : ℕ) (yes : laidOut l ≡ true) (em : m
 
     pub accepted-is : (w : ℕ) → w ≡ weight (termsIn l n) → w ≤ 2 ^ 60
         → _≡_ {A = Checked} (record { refusal = none; modes = m; terms = n; weight = w }) (checkedOf o l)
-    unfolding refusalOf checkedOf
+    unfolding refusalOf
     accepted-is w e h =
         let k : weight (termsIn l n) ≤ 2 ^ 60 = omega arith in
         let light : refusalOf o l ≡ none = rw (yes, ← em, ← en, fine, le-leb _ _ k) (or-second none _ refl ∙ or-second none _ refl) in
-        rw (light, ← em, ← en, e)
+        rw (light, ← em, ← en, e) (sym (unless-not none refusedRecord _ refl))

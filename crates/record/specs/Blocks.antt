@@ -4,6 +4,7 @@ use mathlib.Core.Bool.{Bool, cond}
 use mathlib.Core.List.{List, [], _∷_}
 use lib.Dec.{eqb, ltb}
 use lib.ListN.{take, drop}
+use Rattle.modes.specs.Refusals.{unless}
 use Rattle.modes.specs.declared.Term.{Term}
 use Rattle.record.specs.Terms.{before}
 use Rattle.record.specs.Layout.{countOf, termsOf}
@@ -38,8 +39,8 @@ abbrev pub stretch : ℕ → ℕ → ℕ → Stretch
 stretch n first past = cond (eqb first past) emptyStretch (record { start = 32 + 8 * n + 8 * first; len = 8 * (past - first) })
 
 -- of a record that is not accepted, the empty part
-unfoldable pub blockOf : List ℕ → ℕ → Stretch
-blockOf l a = cond (eqb ((refusalOf 1 l) .number) 0) (stretch (countOf l) (blockFirst l a) (blockPast l a)) emptyStretch
+abbrev pub blockOf : List ℕ → ℕ → Stretch
+blockOf l a = unless (refusalOf 1 l) (λ _. emptyStretch) (stretch (countOf l) (blockFirst l a) (blockPast l a))
 
 -- the bytes of a stretch
 abbrev pub bytesIn : Stretch → List ℕ → List ℕ

@@ -2,6 +2,7 @@ pub mod Numbers
 pub mod Terms
 pub mod Layout
 pub mod Refusals
+pub mod Operands
 pub mod Coefficients
 pub mod Canonical
 pub mod Reading

@@ -4,7 +4,7 @@ use mathlib.Core.Bool.{Bool, true, cond, _&&_}
 use mathlib.Core.List.{List, [], _∷_}
 use lib.Dec.{eqb, ltb, leb}
 use lib.IntN.{natAbs}
-use Rattle.modes.specs.Refusals.{orElse}
+use Rattle.modes.specs.Refusals.{orElse, unless}
 use Rattle.modes.specs.Spaces.{inside}
 use Rattle.modes.specs.declared.Term.{Term}
 use Rattle.modes.specs.declared.Refusal.{Refusal}
@@ -36,5 +36,5 @@ refusedRecord r = record { refusal = r; modes = 0; terms = 0; weight = 0 }
 abbrev pub acceptedRecord : List ℕ → Checked
 acceptedRecord l = record { refusal = none; modes = modesOf l; terms = countOf l; weight = weight (termsOf l) }
 
-unfoldable pub checkedOf : ℕ → List ℕ → Checked
-checkedOf o l = cond (eqb ((refusalOf o l) .number) 0) (acceptedRecord l) (refusedRecord (refusalOf o l))
+abbrev pub checkedOf : ℕ → List ℕ → Checked
+checkedOf o l = unless (refusalOf o l) refusedRecord (acceptedRecord l)

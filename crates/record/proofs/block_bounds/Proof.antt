@@ -2,9 +2,8 @@
 use Prim.Native.Nat.{_≤_}
 use Rattle.record.proofs.Accepted.{accepted, refused, readable}
 use Rattle.record.proofs.Blocks.{block-bounded, stretch-none, stretch-some, block-refused, block-found}
-use mathlib.Core.Path.{ap, _∙_}
+use mathlib.Core.Path.{_∙_}
 use native.Mathlib.Omega.{arith}
-use Rattle.record.specs.declared.Checked.{Checked}
 use borrow.Author.Needs.{needs}
 use Rattle.record.proofs.block_bounds.Statement.{statement}
 use Rattle.record.proofs.block_bounds.Tie as tie
@@ -18,7 +17,7 @@ check-requires : tie.Need-check-requires
 check-requires c κs = search needs
 
 returns : tie.Need-returns
-returns c = block-refused _ _ (λ e. c .if1 .taken (ap (λ (d : Checked). d .refusal .number) (refused 1 _ _ (c .before .before .check .ensures) (c .if1 .taken)) ∙ e))
+returns c = block-refused _ _ (refused 1 _ _ (c .before .before .check .ensures) (c .if1 .taken))
 
 count-below-requires : tie.Need-count-below-requires
 count-below-requires c κs = readable 1 _ _ (accepted 1 _ _ (c .before .before .check .ensures) (c .if1 .left))
