@@ -11,28 +11,27 @@ use lib.Ieee.Scale.{finite}
 use borrow.Author.Tests.{ne-eqb}
 use Rattle.modes.specs.Answers.{refusal, none}
 use Rattle.modes.specs.declared.Refusal.{Refusal}
-use Rattle.modes.proofs.Refusals.{or-first, or-second}
-use Rattle.modes.specs.Refusals.{firstRefusal}
+use Rattle.modes.proofs.Refusals.{or-first, or-second, first-refuses, by-number, unless-not, unless-so}
+use Rattle.modes.specs.Refusals.{firstRefusal, unless}
 use Rattle.modes.specs.Spaces.{wordsRefusal}
 use Rattle.float_elem.specs.Sums.{sumTo}
-use Rattle.float_elem.specs.Answers.{Told, toldBy, unless}
+use Rattle.float_elem.specs.Answers.{Told, valued, noValues, toldBy}
 use Rattle.float_elem.specs.declared.FloatElement.{FloatElement}
 use Rattle.float_elem.specs.Elements.{allFinite, listed, floatTermRefusal, termAt, inputRefusal, sumAt, sumRefusal, summed, floatElement}
 
 module _ (m : ℕ) (cre ann : List ℕ) (parts : List (List Float)) (bra ket : ℕ) where
-  refused : (r : Refusal) → inputRefusal m cre ann parts bra ket ≡ r → (r .number ≡ 0 → ⊥) → _≡_ {A = Told} (record { refusal = r; values = [] }) (floatElement m cre ann parts bra ket)
-  unfolding floatElement unless
-  refused r e n = rw (e, or-first r (sumRefusal bra ket cre ann parts) n, ne-eqb (r .number) 0 n)
+  refused : (r : Refusal) → inputRefusal m cre ann parts bra ket ≡ r → (r .number ≡ 0 → ⊥) → noValues r ≡ floatElement m cre ann parts bra ket
+  refused r e n = rw e (first-refuses r (sumRefusal bra ket cre ann parts) noValues _ n)
 
   module _ (b : Bool) (el : b ≡ listed m cre ann parts) where
-    pub lists-refused : b ≡ false → _≡_ {A = Told} (record { refusal = refusal 1 1 0; values = [] }) (floatElement m cre ann parts bra ket)
+    pub lists-refused : b ≡ false → noValues (refusal 1 1 0) ≡ floatElement m cre ann parts bra ket
     unfolding inputRefusal
     lists-refused e =
         let one : (refusal 1 1 0) .number ≡ 0 → ⊥ = λ z. absurd (omega arith) in
         refused (refusal 1 1 0) (rw (← el, e) (or-first (refusal 1 1 0) _ one)) one
 
     module _ (yes : b ≡ true) (t : Refusal) (et : t ≡ firstRefusal (termAt m cre ann parts) (length cre)) where
-      pub term-refused : (t .number ≡ 0 → ⊥) → _≡_ {A = Told} (record { refusal = t; values = [] }) (floatElement m cre ann parts bra ket)
+      pub term-refused : (t .number ≡ 0 → ⊥) → noValues t ≡ floatElement m cre ann parts bra ket
       unfolding inputRefusal
       term-refused n = refused t (rw (← el, yes, ← et) (or-second none _ refl ∙ or-first t _ n)) n
 
@@ -41,11 +40,10 @@ module _ (m : ℕ) (cre ann : List ℕ) (parts : List (List Float)) (bra ket : �
         unfolding inputRefusal
         words-next = rw (← el, yes, ← et) (or-second none _ refl ∙ or-second t _ z ∙ sym ew)
 
-        pub word-refused : (w .number ≡ 0 → ⊥) → _≡_ {A = Told} (record { refusal = w; values = [] }) (floatElement m cre ann parts bra ket)
+        pub word-refused : (w .number ≡ 0 → ⊥) → noValues w ≡ floatElement m cre ann parts bra ket
         word-refused n = refused w words-next n
 
         pub sums-decide : w .number ≡ 0 → (t : Told) → t ≡ summed bra ket cre ann parts → t ≡ floatElement m cre ann parts bra ket
-        unfolding floatElement
         sums-decide n t e = e ∙ rw (words-next, or-second w (sumRefusal bra ket cre ann parts) n)
 
 -- ---- one part
@@ -53,13 +51,8 @@ module _ (m : ℕ) (cre ann : List ℕ) (parts : List (List Float)) (bra ket : �
 abbrev onePart : Told → Told
 onePart t = record { refusal = t .refusal; values = take 1 (t .values) }
 
-unless-one : (r : Refusal) (x y : Float) → unless r (x ∷ []) ≡ onePart (unless r (x ∷ y ∷ []))
-unfolding unless
-unless-one r x y = go (eqb (r .number) 0)
-  where
-    go : (b : Bool) → _≡_ {A = Told} (cond b (record { refusal = none; values = x ∷ [] }) (record { refusal = r; values = [] })) (onePart (cond b (record { refusal = none; values = x ∷ y ∷ [] }) (record { refusal = r; values = [] })))
-    go true = refl
-    go false = refl
+unless-one : (r : Refusal) (x y : Float) → unless r noValues (valued (x ∷ [])) ≡ onePart (unless r noValues (valued (x ∷ y ∷ [])))
+unless-one r x y = by-number r (λ z. rw (unless-not r noValues (valued (x ∷ [])) z, unless-not r noValues (valued (x ∷ y ∷ [])) z)) (λ h. rw (unless-so r noValues (valued (x ∷ [])) h, unless-so r noValues (valued (x ∷ y ∷ [])) h))
 
 finite-twice : (x : Float) → allFinite (x ∷ x ∷ []) ≡ allFinite (x ∷ [])
 finite-twice x = and-self-left (finite x) true
@@ -87,5 +80,4 @@ module _ (m : ℕ) (cre ann : List ℕ) (cs : List Float) (bra ket : ℕ) where
       λ j. firstRefusal (λ i. same i j) (length cre)
 
   pub one-of-two : (e f : FloatElement) → toldBy e ≡ floatElement m cre ann (cs ∷ cs ∷ []) bra ket → e ≡ f → onePart (toldBy f) ≡ floatElement m cre ann (cs ∷ []) bra ket
-  unfolding floatElement
   one-of-two e f h same = rw (← same, h, inputs-twice, sums-twice) (sym (unless-one _ _ _))

@@ -9,6 +9,7 @@ use lib.ListN.{length}
 use lib.Ieee.{Float}
 use lib.Ieee.Scale.{finite}
 use borrow.Author.Tests.{eq-eqb, ne-eqb, le-leb, lt-leb, eqb-true}
+use Rattle.modes.specs.Refusals.{orElse, need}
 use Rattle.modes.specs.Spaces.{spaceOf, isMade, inside}
 use Rattle.modes.specs.Answers.{refusal, none}
 use Rattle.modes.specs.declared.Refusal.{Refusal}
@@ -66,24 +67,24 @@ second-decides x y e = rw (e, and-true)
 
 module _ (m i cre ann : ℕ) (c : List Float) where
   pub outside : inside m cre ann ≡ false → refusal 2 1 i ≡ floatTermRefusal m i cre ann c
-  unfolding floatTermRefusal
+  unfolding floatTermRefusal orElse
   outside e = rw e
 
   module _ (e : inside m cre ann ≡ true) where
     pub not-finite : allFinite c ≡ false → refusal 13 1 i ≡ floatTermRefusal m i cre ann c
-    unfolding floatTermRefusal
+    unfolding floatTermRefusal orElse
     not-finite f = rw (e, f)
 
     pub right-term : allFinite c ≡ true → none ≡ floatTermRefusal m i cre ann c
-    unfolding floatTermRefusal
+    unfolding floatTermRefusal orElse
     right-term f = rw (e, f)
 
   -- a refusal without a number is none
   pub no-number : (r : Refusal) → r ≡ floatTermRefusal m i cre ann c → r .number ≡ 0 → floatTermRefusal m i cre ann c ≡ none
-  unfolding floatTermRefusal
+  unfolding floatTermRefusal orElse
   no-number r e z = go (inside m cre ann) (allFinite c) (ap (λ (x : Refusal). x .number) (sym e) ∙ z)
     where
-      go : (a b : Bool) → (cond a (cond b none (refusal 13 1 i)) (refusal 2 1 i)) .number ≡ 0 → cond a (cond b none (refusal 13 1 i)) (refusal 2 1 i) ≡ none
+      go : (a b : Bool) → (orElse (need a (refusal 2 1 i)) (need b (refusal 13 1 i))) .number ≡ 0 → orElse (need a (refusal 2 1 i)) (need b (refusal 13 1 i)) ≡ none
       go true true z = refl
       go true false z = absurd (omega arith)
       go false b z = absurd (omega arith)

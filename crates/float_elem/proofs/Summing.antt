@@ -14,11 +14,11 @@ use Rattle.products.specs.PhaseRule.{Outcome, went, term}
 use Rattle.products.specs.Apply.{applied}
 use Rattle.products.specs.declared.ApplyResult.the-variants.{Applied, Zero}
 use Rattle.products.proofs.Outcomes.{outcome-gone, outcome-went}
-use Rattle.modes.specs.Refusals.{firstRefusal}
+use Rattle.modes.specs.Refusals.{firstRefusal, need, unless}
 use Rattle.modes.proofs.FirstRefusals.{first-starts, first-goes, first-stays}
 use Rattle.float_elem.specs.declared.Complex64.{Complex64}
 use Rattle.float_elem.specs.Sums.{plusZero, signedFloat, addedFloat, joined, sumTo}
-use Rattle.float_elem.specs.Answers.{Told, unless}
+use Rattle.float_elem.specs.Answers.{valued, noValues}
 use Rattle.float_elem.specs.Elements.{allFinite, sumAt, sumRefusal, summed}
 
 -- ---- one term and one part
@@ -74,17 +74,17 @@ module _ (bra ket : ℕ) (cre ann : List ℕ) (re im : List Float) where
 
   module _ (x y : Float) (i : ℕ) (so : Running bra ket cre ann re im x y i) (z w : Float)
       (ez : z ≡ joined bra ket (getD cre i 0) (getD ann i 0) (getD re i nan) x) (ew : w ≡ joined bra ket (getD cre i 0) (getD ann i 0) (getD im i nan) y) where
-    at : (b : Bool) → allFinite (z ∷ w ∷ []) ≡ b → sumAt bra ket cre ann (re ∷ im ∷ []) i ≡ cond b none (refusal 13 1 i)
+    at : (b : Bool) → allFinite (z ∷ w ∷ []) ≡ b → sumAt bra ket cre ann (re ∷ im ∷ []) i ≡ need b (refusal 13 1 i)
     at b e = rw (← part-on re i x z (so .res) ez, ← part-on im i y w (so .ims) ew, e)
 
     pub sums-go : allFinite (z ∷ w ∷ []) ≡ true → (j : ℕ) → j ≡ i + 1 → Running bra ket cre ann re im z w j
     sums-go f j e =
         rw (e, add-one) (record { res = part-on re i x z (so .res) ez; ims = part-on im i y w (so .ims) ew; fine = rw add-one at (first-goes _ i (so .fine) (at true f)) })
 
-    pub sums-stop : allFinite (z ∷ w ∷ []) ≡ false → i < length cre → _≡_ {A = Told} (record { refusal = refusal 13 1 i; values = [] }) (summed bra ket cre ann (re ∷ im ∷ []))
+    pub sums-stop : allFinite (z ∷ w ∷ []) ≡ false → i < length cre → noValues (refusal 13 1 i) ≡ summed bra ket cre ann (re ∷ im ∷ [])
     unfolding sumRefusal unless
     sums-stop e l = rw (← first-stays _ i (so .fine) _ (sym (at false e)) (λ q. omega arith) (length cre) l)
 
-  pub sums-end : (x y : Float) (i : ℕ) → Running bra ket cre ann re im x y i → i ≡ length cre → _≡_ {A = Told} (record { refusal = none; values = x ∷ y ∷ [] }) (summed bra ket cre ann (re ∷ im ∷ []))
+  pub sums-end : (x y : Float) (i : ℕ) → Running bra ket cre ann re im x y i → i ≡ length cre → valued (x ∷ y ∷ []) ≡ summed bra ket cre ann (re ∷ im ∷ [])
   unfolding sumRefusal unless
   sums-end x y i so e = rw (← e, so .fine, ← so .res, ← so .ims)

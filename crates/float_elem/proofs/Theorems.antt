@@ -19,12 +19,12 @@ use Rattle.modes.proofs.Bools.{and-l, and-r}
 use Rattle.modes.proofs.Digits.{lt-or-ge}
 use Rattle.products.specs.PhaseRule.{Outcome, gone, went}
 use Rattle.modes.specs.Every.{Every, none as nothing, more}
-use Rattle.modes.specs.Refusals.{orElse, firstRefusal}
+use Rattle.modes.specs.Refusals.{orElse, firstRefusal, need, unless}
 use Rattle.modes.specs.Spaces.{inside}
-use Rattle.modes.proofs.Refusals.{or-second, neither}
+use Rattle.modes.proofs.Refusals.{or-second, neither, either-way}
 use Rattle.modes.proofs.FirstRefusals.{first-starts, first-none, first-goes}
 use Rattle.float_elem.specs.Sums.{plusZero, signedFloat, addedFloat, sumTo}
-use Rattle.float_elem.specs.Answers.{Told, unless}
+use Rattle.float_elem.specs.Answers.{Told, valued, noValues}
 use Rattle.float_elem.specs.Elements.{allFinite, floatTermRefusal, termAt, inputRefusal, sumsTo, sumAt, sumRefusal, floatElement}
 use Rattle.float_elem.specs.Single.{exactly, Doubles, OnlyJoins}
 use Rattle.float_elem.proofs.Exact.{one-term}
@@ -46,15 +46,10 @@ module _ (bra ket : ℕ) (cre ann : List ℕ) where
   sums-finite parts (suc n) z = finite-there _ n (first-none (sumAt bra ket cre ann parts) (suc n) n z (omega arith))
 
 pub values-finite : (m : ℕ) (cre ann : List ℕ) (parts : List (List Float)) (bra ket : ℕ) → allFinite (floatElement m cre ann parts bra ket .values) ≡ true
-unfolding floatElement unless sumRefusal
-values-finite m cre ann parts bra ket = go (eqb (r .number) 0) refl
-  where
-    r : Refusal
-    r = orElse (inputRefusal m cre ann parts bra ket) (sumRefusal bra ket cre ann parts)
-
-    go : (b : Bool) → eqb (r .number) 0 ≡ b → allFinite ((cond {A = Told} b (record { refusal = none; values = sumsTo bra ket cre ann parts (length cre) }) (record { refusal = r; values = [] })) .values) ≡ true
-    go true e = sums-finite bra ket cre ann parts (length cre) (neither _ _ (eqb-true _ _ e) .1)
-    go false e = refl
+unfolding sumRefusal
+values-finite m cre ann parts bra ket =
+    either-way (orElse (inputRefusal m cre ann parts bra ket) (sumRefusal bra ket cre ann parts)) noValues (valued (sumsTo bra ket cre ann parts (length cre))) (λ t. allFinite (t .values) ≡ true)
+    (λ z. sums-finite bra ket cre ann parts (length cre) (neither _ _ z .1)) (λ h. refl)
 
 -- ---- exactly one joining term
 
@@ -129,17 +124,13 @@ module _ (bra ket : ℕ) (cre ann : List ℕ) (n i : ℕ) (s : Bool) (only : Onl
 
 term-finite : (m i cre ann : ℕ) (c : List Float) → floatTermRefusal m i cre ann c .number ≡ 0 → allFinite c ≡ true
 unfolding floatTermRefusal
-term-finite m i cre ann c = go (inside m cre ann)
-  where
-    go : (b : Bool) → (cond b (cond (allFinite c) none (refusal 13 1 i)) (refusal 2 1 i)) .number ≡ 0 → allFinite c ≡ true
-    go true z = finite-there _ i z
-    go false z = absurd (omega arith)
+term-finite m i cre ann c z = finite-there _ i (neither (need (inside m cre ann) (refusal 2 1 i)) _ z .1)
 
 -- where the inputs are not refused, one joining term is answered by its coefficient with its sign
 pub one-joining : (m : ℕ) (cre ann : List ℕ) (parts : List (List Float)) (bra ket i : ℕ) (s : Bool) → Every Doubles parts → inputRefusal m cre ann parts bra ket .number ≡ 0
     → OnlyJoins bra ket cre ann (length cre) i s
-    → _≡_ {A = Told} (floatElement m cre ann parts bra ket) (record { refusal = none; values = map (λ cs. exactly (signedFloat s (getD cs i nan))) parts })
-unfolding floatElement inputRefusal sumRefusal unless
+    → floatElement m cre ann parts bra ket ≡ valued (map (λ cs. exactly (signedFloat s (getD cs i nan))) parts)
+unfolding inputRefusal sumRefusal unless
 one-joining m cre ann parts bra ket i s d z only =
     let terms = neither _ _ (neither _ _ z .1) .0 in
     let there = term-finite m i _ _ _ (first-none (termAt m cre ann parts) (length cre) i terms (only .inside)) in

@@ -9,9 +9,9 @@ use lib.Ieee.Scale.{finite}
 use Rattle.modes.specs.Spaces.{spaceOf, isMade, inside, wordsRefusal}
 use Rattle.modes.specs.Answers.{refusal, none}
 use Rattle.modes.specs.declared.Refusal.{Refusal}
-use Rattle.modes.specs.Refusals.{orElse, firstRefusal}
+use Rattle.modes.specs.Refusals.{need, orElse, firstRefusal, unless}
 use Rattle.float_elem.specs.Sums.{sumTo}
-use Rattle.float_elem.specs.Answers.{Told, unless}
+use Rattle.float_elem.specs.Answers.{Told, valued, noValues}
 
 abbrev pub allFinite : List Float → Bool
 allFinite [] = true
@@ -23,7 +23,7 @@ allLong n (cs ∷ parts) = eqb (length cs) n && allLong n parts
 
 -- 2 and then 13 of the term {cre|ann} at the place i, whose coefficient has the parts c
 unfoldable pub floatTermRefusal : ℕ → ℕ → ℕ → ℕ → List Float → Refusal
-floatTermRefusal m i cre ann c = cond (inside m cre ann) (cond (allFinite c) none (refusal 13 1 i)) (refusal 2 1 i)
+floatTermRefusal m i cre ann c = orElse (need (inside m cre ann) (refusal 2 1 i)) (need (allFinite c) (refusal 13 1 i))
 
 -- mode count and list lengths keep the rules
 unfoldable pub listed : ℕ → List ℕ → List ℕ → List (List Float) → Bool
@@ -36,7 +36,7 @@ termAt m cre ann parts i = floatTermRefusal m i (getD cre i 0) (getD ann i 0) (m
 -- 1; then term by term 2 and 13; then 12 of the bra and of the ket
 unfoldable pub inputRefusal : ℕ → List ℕ → List ℕ → List (List Float) → ℕ → ℕ → Refusal
 inputRefusal m cre ann parts bra ket =
-    orElse (cond (listed m cre ann parts) none (refusal 1 1 0)) (orElse (firstRefusal (termAt m cre ann parts) (length cre)) (wordsRefusal m bra ket))
+    orElse (need (listed m cre ann parts) (refusal 1 1 0)) (orElse (firstRefusal (termAt m cre ann parts) (length cre)) (wordsRefusal m bra ket))
 
 -- the sums of all parts over the first n terms
 abbrev pub sumsTo : ℕ → ℕ → List ℕ → List ℕ → List (List Float) → ℕ → List Float
@@ -44,16 +44,16 @@ sumsTo bra ket cre ann parts n = map (λ cs. sumTo bra ket cre ann cs n) parts
 
 -- 13 where a sum isn't finite with the i-th term
 abbrev pub sumAt : ℕ → ℕ → List ℕ → List ℕ → List (List Float) → ℕ → Refusal
-sumAt bra ket cre ann parts i = cond (allFinite (sumsTo bra ket cre ann parts (suc i))) none (refusal 13 1 i)
+sumAt bra ket cre ann parts i = need (allFinite (sumsTo bra ket cre ann parts (suc i))) (refusal 13 1 i)
 
 unfoldable pub sumRefusal : ℕ → ℕ → List ℕ → List ℕ → List (List Float) → Refusal
 sumRefusal bra ket cre ann parts = firstRefusal (sumAt bra ket cre ann parts) (length cre)
 
 -- the sums alone: 13 of the first running sum that isn't finite, or the sums over all terms
 abbrev pub summed : ℕ → ℕ → List ℕ → List ℕ → List (List Float) → Told
-summed bra ket cre ann parts = unless (sumRefusal bra ket cre ann parts) (sumsTo bra ket cre ann parts (length cre))
+summed bra ket cre ann parts = unless (sumRefusal bra ket cre ann parts) noValues (valued (sumsTo bra ket cre ann parts (length cre)))
 
 -- the whole answer: the inputs' refusal before that of the sums, or the sums over all terms
-unfoldable pub floatElement : ℕ → List ℕ → List ℕ → List (List Float) → ℕ → ℕ → Told
+abbrev pub floatElement : ℕ → List ℕ → List ℕ → List (List Float) → ℕ → ℕ → Told
 floatElement m cre ann parts bra ket =
-    unless (orElse (inputRefusal m cre ann parts bra ket) (sumRefusal bra ket cre ann parts)) (sumsTo bra ket cre ann parts (length cre))
+    unless (orElse (inputRefusal m cre ann parts bra ket) (sumRefusal bra ket cre ann parts)) noValues (valued (sumsTo bra ket cre ann parts (length cre)))

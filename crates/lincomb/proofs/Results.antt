@@ -108,11 +108,7 @@ module _ (a b : List ℕ) (z : (pairRefusal a b) .number ≡ 0) where
   second-fine = neither _ _ rest-fine .0
 
   pub same-modes : modesOf a ≡ modesOf b
-  same-modes = go (eqb (modesOf a) (modesOf b)) refl (neither _ _ rest-fine .1)
-    where
-      go : (s : Bool) → eqb (modesOf a) (modesOf b) ≡ s → (cond s none (refusal 6 0 0)) .number ≡ 0 → modesOf a ≡ modesOf b
-      go true e h = eqb-true _ _ e
-      go false e h = absurd (omega arith)
+  same-modes = eqb-true _ _ (needed (eqb (modesOf a) (modesOf b)) modesDiffer (λ e. absurd (omega arith)) (neither _ _ rest-fine .1))
 
   pub pair-none : pairRefusal a b ≡ none
   unfolding pairRefusal

@@ -10,19 +10,19 @@ use Rattle.modes.specs.Answers.{none, modesDiffer, resultTooHeavy, tooManyTerms
 use Rattle.lent.specs.Outputs.{Output, refusedOutput, filledOutput}
 use Rattle.record.specs.Terms.{weight}
 use Rattle.record.specs.Layout.{encode, modesOf, countOf, termsOf}
-use Rattle.modes.specs.Refusals.{orElse}
+use Rattle.modes.specs.Refusals.{need, orElse}
 use Rattle.record.specs.Refusals.{refusalOf}
 use Rattle.lincomb.specs.declared.Opened.{Opened}
 
 -- the first record fully, the second likewise, then 6
 unfoldable pub pairRefusal : List ℕ → List ℕ → Refusal
-pairRefusal a b = orElse (refusalOf 1 a) (orElse (refusalOf 2 b) (cond (eqb (modesOf a) (modesOf b)) none modesDiffer))
+pairRefusal a b = orElse (refusalOf 1 a) (orElse (refusalOf 2 b) (need (eqb (modesOf a) (modesOf b)) modesDiffer))
 
 -- a result of n terms and weight w, for an output of room bytes: 10, 9, 11
 unfoldable pub resultRefusal : ℕ → ℕ → ℕ → Refusal
 resultRefusal room n w =
-    orElse (cond (leb n 2048) none tooManyTerms)
-    (orElse (cond (leb w (2 ^ 60)) none resultTooHeavy) (cond (leb (32 + 24 * n) room) none outputTooShort))
+    orElse (need (leb n 2048) tooManyTerms)
+    (orElse (need (leb w (2 ^ 60)) resultTooHeavy) (need (leb (32 + 24 * n) room) outputTooShort))
 
 -- the record of the terms ts on m modes, or the refusal r
 unfoldable pub recordOutput : ℕ → ℕ → Refusal → ℕ → List Term → Output

@@ -16,7 +16,7 @@ use Rattle.record.specs.Layout.{termsIn, termsOf, modesOf}
 use Rattle.modes.specs.Refusals.{orElse, firstRefusal}
 use Rattle.record.specs.Refusals.{refusalOf, checkedOf}
 use Rattle.record.specs.declared.Checked.{Checked}
-use Rattle.modes.proofs.Refusals.{or-first, or-second, neither, second-refuses, neither-refuses, first-refuses}
+use Rattle.modes.proofs.Refusals.{or-first, or-second, neither, second-refuses, neither-refuses, first-refuses, needed}
 use Rattle.record.proofs.Accepted.{Accepted, accepted, readable, refused, refusal-told}
 use Rattle.mat_elem.specs.Matrix.{outsideAt, repeatAt, basisRefusal, matrixOf, refusedMatrix, projectedRefusal, projectedOf}
 use Rattle.mat_elem.specs.declared.Projected.{Projected}
@@ -43,11 +43,7 @@ module _ (m : ℕ) (basis : List ℕ) where
   -- a basis that is not refused is short
   pub basis-short : (basisRefusal m basis) .number ≡ 0 → length basis ≤ 8
   unfolding basisRefusal
-  basis-short z = go (leb (length basis) 8) refl (neither _ _ z .0)
-    where
-      go : (b : Bool) → leb (length basis) 8 ≡ b → (cond b none (refusal 14 3 0)) .number ≡ 0 → length basis ≤ 8
-      go true q e = leb-true _ _ q
-      go false q e = absurd (omega arith)
+  basis-short z = leb-true _ _ (needed (leb (length basis) 8) (refusal 14 3 0) (λ e. absurd (omega arith)) (neither _ _ z .0))
 
 -- ---- the call
 

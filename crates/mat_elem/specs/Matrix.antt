@@ -1,6 +1,6 @@
 -- The projected matrix of a record on a basis of up to eight words: row the bra, column the ket.
 use mathlib.Core.Path.{_≡_}
-use mathlib.Core.Bool.{Bool, false, cond, _||_}
+use mathlib.Core.Bool.{Bool, false, not, _||_}
 use mathlib.Core.List.{List, [], _∷_, _++_, map}
 use Prim.Native.Nat.{ℕ, _-_, _<_}
 use lib.Dec.{eqb, leb}
@@ -12,7 +12,7 @@ use Rattle.modes.specs.Answers.{refusal, none}
 use Rattle.modes.specs.declared.Refusal.{Refusal}
 use Rattle.modes.specs.declared.Term.{Term}
 use Rattle.products.specs.Operators.{element}
-use Rattle.modes.specs.Refusals.{orElse, firstRefusal, unless}
+use Rattle.modes.specs.Refusals.{need, orElse, firstRefusal, unless}
 use Rattle.record.specs.Operands.{Operand}
 use Rattle.modes.specs.Spaces.{wordRefusal}
 use Rattle.mat_elem.specs.declared.Row.{Row}
@@ -29,12 +29,12 @@ stands w (x ∷ ws) = eqb x w || stands w ws
 
 -- 14 of the basis word at index i, where it stands earlier too
 abbrev pub repeatAt : List ℕ → ℕ → Refusal
-repeatAt basis i = cond (stands (getD basis i 0) (take i basis)) (refusal 14 3 i) none
+repeatAt basis i = need (not (stands (getD basis i 0) (take i basis))) (refusal 14 3 i)
 
 -- the length, then 12 in order, then repeats
 unfoldable pub basisRefusal : ℕ → List ℕ → Refusal
 basisRefusal m basis =
-    orElse (cond (leb (length basis) 8) none (refusal 14 3 0))
+    orElse (need (leb (length basis) 8) (refusal 14 3 0))
     (orElse (firstRefusal (outsideAt m basis) (length basis)) (firstRefusal (repeatAt basis) (length basis)))
 
 -- the values of f for the basis words, and z up to eight

@@ -4,7 +4,7 @@ use mathlib.Core.Bool.{Bool, true, false, cond}
 use lib.Dec.{eqb}
 use borrow.Author.Tests.{eq-eqb, ne-eqb, eqb-true, eqb-false}
 use Rattle.modes.specs.declared.Refusal.{Refusal}
-use Rattle.modes.specs.Refusals.{orElse, unless}
+use Rattle.modes.specs.Refusals.{need, orElse, unless}
 
 pub or-first : (r s : Refusal) → (r .number ≡ 0 → ⊥) → orElse r s ≡ r
 unfolding orElse
@@ -30,6 +30,11 @@ module _ (r a b : Refusal) (e : r ≡ a) where
 
   pub the-second : r .number ≡ 0 → b ≡ orElse a b
   the-second z = sym (ap (λ (x : Refusal). orElse x b) (sym e) ∙ or-second r b z)
+
+-- a test whose refusal is not given holds
+pub needed : (b : Bool) (r : Refusal) → (r .number ≡ 0 → ⊥) → (need b r) .number ≡ 0 → b ≡ true
+needed true r h z = refl
+needed false r h z = absurd (h z)
 
 -- what is shown where r refuses nothing, and where it refuses, is shown
 pub by-number : {P : Type 0} (r : Refusal) → (r .number ≡ 0 → P) → ((r .number ≡ 0 → ⊥) → P) → P

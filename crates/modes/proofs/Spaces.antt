@@ -7,6 +7,7 @@ use native.Mathlib.Omega.{arith}
 use lib.Dec.{ltb}
 use lib.Bits.{bitOr, or-lt, or-add-and, and-le-l, and-le-r}
 use borrow.Author.Tests.{lt-ltb, le-ltb}
+use Rattle.modes.proofs.Refusals.{needed}
 use Rattle.modes.specs.declared.Refusal.{Refusal}
 use Rattle.modes.specs.Answers.{refusal, none}
 use Rattle.modes.specs.Spaces.{inside, wordRefusal}
@@ -24,11 +25,7 @@ inside-both m cre ann = go (lt-or-ge ann (2 ^ m)) (lt-or-ge cre (2 ^ m))
 
 -- a word whose refusal has no number is inside
 pub word-inside : (m o p w : ℕ) → (wordRefusal m o p w) .number ≡ 0 → ltb w (2 ^ m) ≡ true
-word-inside m o p w z = go (ltb w (2 ^ m)) z
-  where
-    go : (b : Bool) → (cond b none (refusal 12 o p)) .number ≡ 0 → b ≡ true
-    go true q = refl
-    go false q = absurd (omega arith)
+word-inside m o p w z = needed (ltb w (2 ^ m)) (refusal 12 o p) (λ e. absurd (omega arith)) z
 
 -- and not refused
 pub word-none : (m o p w : ℕ) (r : Refusal) → r ≡ wordRefusal m o p w → r .number ≡ 0 → wordRefusal m o p w ≡ none

@@ -1,9 +1,13 @@
 -- The first refusal of several, and answers whose place a refusal takes.
-use mathlib.Core.Bool.{cond}
+use mathlib.Core.Bool.{Bool, cond}
 use Prim.Native.Nat.{ℕ, zero, suc}
 use lib.Dec.{eqb}
 use Rattle.modes.specs.declared.Refusal.{Refusal}
 use Rattle.modes.specs.Answers.{none}
+
+-- r, unless the test holds
+abbrev pub need : Bool → Refusal → Refusal
+need holds r = cond holds none r
 
 -- r, or s where r refuses nothing
 unfoldable pub orElse : Refusal → Refusal → Refusal

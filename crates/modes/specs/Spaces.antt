@@ -2,8 +2,8 @@
 use mathlib.Core.Bool.{Bool, cond, _&&_}
 use Prim.Native.Nat.{ℕ, _^_}
 use lib.Dec.{eqb, leb, ltb}
-use Rattle.modes.specs.Answers.{refusal, none}
-use Rattle.modes.specs.Refusals.{orElse}
+use Rattle.modes.specs.Answers.{refusal}
+use Rattle.modes.specs.Refusals.{need, orElse}
 use Rattle.modes.specs.declared.Refusal.{Refusal}
 use Rattle.modes.specs.declared.MadeSpace.{MadeSpace}
 use Rattle.modes.specs.declared.MadeSpace.the-variants.{Made, Refused}
@@ -25,7 +25,7 @@ inside m cre ann = ltb ann (2 ^ m) && ltb cre (2 ^ m)
 
 -- 12 where the word holds a mode outside m
 abbrev pub wordRefusal : ℕ → ℕ → ℕ → ℕ → Refusal
-wordRefusal m operand place w = cond (ltb w (2 ^ m)) none (refusal 12 operand place)
+wordRefusal m operand place w = need (ltb w (2 ^ m)) (refusal 12 operand place)
 
 -- 12 of the bra and then of the ket
 abbrev pub wordsRefusal : ℕ → ℕ → ℕ → Refusal

@@ -11,18 +11,18 @@ use Rattle.lent.specs.Bytes.{zeros}
 use Rattle.lent.specs.Outputs.{Output, Gives}
 use Rattle.record.specs.Terms.{weight}
 use Rattle.record.specs.Layout.{modesOf, termsOf}
-use Rattle.modes.specs.Refusals.{orElse}
+use Rattle.modes.specs.Refusals.{need, orElse}
 use Rattle.lincomb.specs.Normal.{normal}
 use Rattle.lincomb.specs.Results.{pairRefusal, resultOf}
 use Rattle.pairs.specs.Products.{allRows, allBranches}
 
 -- 8: the product of the two weights
 unfoldable pub weightRefusal : ℕ → ℕ → Refusal
-weightRefusal v w = cond (leb (v * w) (2 ^ 60)) none productTooHeavy
+weightRefusal v w = need (leb (v * w) (2 ^ 60)) productTooHeavy
 
 -- 7: one row of work a branch
 unfoldable pub workRefusal : ℕ → ℕ → Refusal
-workRefusal room branches = cond (leb (24 * branches) room) none rowsDoNotFit
+workRefusal room branches = need (leb (24 * branches) room) rowsDoNotFit
 
 -- both records and 6, then 8, then 7
 abbrev pub earlyRefusal : Bool → ℕ → List ℕ → List ℕ → Refusal

@@ -1,25 +1,26 @@
 -- What is accepted is canonical, and what is canonical is not refused.
 use mathlib.Core.Path.{_≡_, refl, sym, ap, _∙_}
-use mathlib.Core.Bool.{Bool, true, false, cond, _&&_}
+use mathlib.Core.Bool.{Bool, true, false, cond, _&&_, not}
 use mathlib.Core.List.{List, [], _∷_}
 use Prim.Native.Nat.{ℕ, suc, _+_, _*_, _^_, _≤_}
 use native.Mathlib.Omega.{arith}
 use lib.Dec.{eqb, ltb, leb}
 use lib.IntN.{ℤ, pos, negsuc, natAbs}
 use lib.ListN.{length}
-use borrow.Author.Tests.{ne-eqb, lt-ltb, eqb-true, eqb-false, ltb-true, leb-true, le-leb}
+use borrow.Author.Tests.{ne-eqb, lt-ltb, eqb-true, eqb-false, ltb-true, leb-true, le-leb, not-true}
+use Rattle.modes.proofs.Bools.{and-l, and-r}
 use Rattle.modes.specs.declared.Term.{Term}
 use Rattle.modes.specs.declared.Refusal.{Refusal}
 use Rattle.modes.specs.Answers.{refusal, none as unrefused}
 use Rattle.modes.specs.Every.{Every, none, more}
 use Rattle.record.specs.Terms.{before, Above, Ascending, empty, above, weight}
 use Rattle.record.specs.Layout.{laidOut, modesOf, countOf, termsIn, termsOf}
-use Rattle.modes.specs.Refusals.{orElse}
+use Rattle.modes.specs.Refusals.{orElse, need}
 use Rattle.modes.specs.Spaces.{inside}
 use Rattle.record.specs.Refusals.{termRefusal, termsRefusal, refusalOf, acceptedRecord, refusedRecord, checkedOf}
 use Rattle.record.specs.Canonical.{Inside, Nonzero, Canonical}
 use Rattle.record.specs.declared.Checked.{Checked}
-use Rattle.modes.proofs.Refusals.{or-second, neither, not-refused, either-way}
+use Rattle.modes.proofs.Refusals.{or-second, neither, not-refused, either-way, needed}
 use Rattle.record.proofs.Order.{above-trans}
 use Rattle.record.proofs.Header.{Laid, laid}
 use Rattle.record.proofs.Reading.{length-terms}
@@ -39,23 +40,18 @@ pub record Right (m : ℕ) (up : Bool) (t : Term) : Type 0 where
 
 pub term-right : (o m i : ℕ) (up : Bool) (t : Term) → (termRefusal o m i up t) .number ≡ 0 → Right m up t
 unfolding termRefusal inside
-term-right o m i up t e = go (ltb (t .ann) (2 ^ m)) (ltb (t .cre) (2 ^ m)) up (eqb (natAbs (t .coeff)) 0) refl refl refl refl e
-  where
-    go : (a c u z : Bool) → ltb (t .ann) (2 ^ m) ≡ a → ltb (t .cre) (2 ^ m) ≡ c → up ≡ u → eqb (natAbs (t .coeff)) 0 ≡ z
-        → (cond (a && c) (cond u (cond z (refusal 4 o i) unrefused) (refusal 3 o i)) (refusal 2 o i)) .number ≡ 0 → Right m up t
-    go true true true false p q r s e =
-        record {
-          inside = record { ann = ltb-true _ _ p; cre = ltb-true _ _ q };
-          above = r;
-          nonzero = λ h. absurd (eqb-false _ _ s (ap natAbs h));
-        }
-    go true true true true p q r s e = absurd (omega arith)
-    go true true false z p q r s e = absurd (omega arith)
-    go true false u z p q r s e = absurd (omega arith)
-    go false c u z p q r s e = absurd (omega arith)
+term-right o m i up t e =
+    let first = neither (need (inside m (t .cre) (t .ann)) (refusal 2 o i)) _ e in
+    let rest = neither (need up (refusal 3 o i)) _ (first .1) in
+    let held = needed (ltb (t .ann) (2 ^ m) && ltb (t .cre) (2 ^ m)) (refusal 2 o i) (λ z. absurd (omega arith)) (first .0) in
+    record {
+      inside = record { ann = ltb-true _ _ (and-l (ltb (t .ann) (2 ^ m)) _ held); cre = ltb-true _ _ (and-r (ltb (t .ann) (2 ^ m)) _ held) };
+      above = needed up (refusal 3 o i) (λ z. absurd (omega arith)) (rest .0);
+      nonzero = λ h. eqb-false _ _ (not-true _ (needed (not (eqb (natAbs (t .coeff)) 0)) (refusal 4 o i) (λ z. absurd (omega arith)) (rest .1))) (ap natAbs h);
+    }
 
 right-none : (o m i : ℕ) (up : Bool) (t : Term) → Right m up t → termRefusal o m i up t ≡ unrefused
-unfolding termRefusal inside
+unfolding termRefusal inside orElse
 right-none o m i up t r =
     rw (lt-ltb _ _ (r .inside .ann), lt-ltb _ _ (r .inside .cre), r .above, ne-eqb _ _ (abs-nonzero (t .coeff) (r .nonzero)))
 
@@ -102,27 +98,19 @@ none-refused o m i up (t ∷ ts) b (more h hs) (above a s) (more n ns) =
 -- ---- the record
 
 module _ (o : ℕ) (l : List ℕ) (e : (refusalOf o l) .number ≡ 0) where
-  laid-number : (cond (laidOut l) unrefused (refusal 1 o 0)) .number ≡ 0
+  laid-number : (need (laidOut l) (refusal 1 o 0)) .number ≡ 0
   unfolding refusalOf
   laid-number = neither _ _ e .0
 
-  rest-number : (orElse (termsRefusal o (modesOf l) 0 (λ _. true) (termsOf l)) (cond (leb (weight (termsOf l)) (2 ^ 60)) unrefused (refusal 5 o 0))) .number ≡ 0
+  rest-number : (orElse (termsRefusal o (modesOf l) 0 (λ _. true) (termsOf l)) (need (leb (weight (termsOf l)) (2 ^ 60)) (refusal 5 o 0))) .number ≡ 0
   unfolding refusalOf
   rest-number = neither _ _ e .1
 
   is-laid : laidOut l ≡ true
-  is-laid = go (laidOut l) laid-number
-    where
-      go : (b : Bool) → (cond b unrefused (refusal 1 o 0)) .number ≡ 0 → b ≡ true
-      go true z = refl
-      go false z = absurd (omega arith)
+  is-laid = needed (laidOut l) (refusal 1 o 0) (λ z. absurd (omega arith)) laid-number
 
   is-light : weight (termsOf l) ≤ 2 ^ 60
-  is-light = go (leb (weight (termsOf l)) (2 ^ 60)) refl (neither _ _ rest-number .1)
-    where
-      go : (b : Bool) → leb (weight (termsOf l)) (2 ^ 60) ≡ b → (cond b unrefused (refusal 5 o 0)) .number ≡ 0 → weight (termsOf l) ≤ 2 ^ 60
-      go true q z = leb-true _ _ q
-      go false q z = absurd (omega arith)
+  is-light = leb-true _ _ (needed (leb (weight (termsOf l)) (2 ^ 60)) (refusal 5 o 0) (λ z. absurd (omega arith)) (neither _ _ rest-number .1))
 
   right : AllRight (modesOf l) (λ _. true) (termsOf l)
   right = all-right o (modesOf l) 0 (λ _. true) (termsOf l) (neither _ _ rest-number .0)

@@ -1,10 +1,10 @@
 -- Which number refuses a list of bytes that is given as a record, with the operand o and the place; and what the check answers.
 use Prim.Native.Nat.{ℕ, suc, _^_}
-use mathlib.Core.Bool.{Bool, true, cond, _&&_}
+use mathlib.Core.Bool.{Bool, true, not}
 use mathlib.Core.List.{List, [], _∷_}
 use lib.Dec.{eqb, ltb, leb}
 use lib.IntN.{natAbs}
-use Rattle.modes.specs.Refusals.{orElse, unless}
+use Rattle.modes.specs.Refusals.{need, orElse, unless}
 use Rattle.modes.specs.Spaces.{inside}
 use Rattle.modes.specs.declared.Term.{Term}
 use Rattle.modes.specs.declared.Refusal.{Refusal}
@@ -16,7 +16,8 @@ use Rattle.record.specs.declared.Checked.{Checked}
 -- 2, 3 and 4 of the i-th term; up says that it is the first or above the one before it
 unfoldable pub termRefusal : ℕ → ℕ → ℕ → Bool → Term → Refusal
 termRefusal o m i up t =
-    cond (inside m (t .cre) (t .ann)) (cond up (cond (eqb (natAbs (t .coeff)) 0) (refusal 4 o i) none) (refusal 3 o i)) (refusal 2 o i)
+    orElse (need (inside m (t .cre) (t .ann)) (refusal 2 o i))
+    (orElse (need up (refusal 3 o i)) (need (not (eqb (natAbs (t .coeff)) 0)) (refusal 4 o i)))
 
 -- the first refusal of the terms from the i-th on; up tells which terms may stand there
 unfoldable pub termsRefusal : ℕ → ℕ → ℕ → (Term → Bool) → List Term → Refusal
@@ -26,8 +27,8 @@ termsRefusal o m i up (t ∷ ts) = let later = termsRefusal o m (suc i) (before 
 -- 1; then term by term 2, 3 and 4; then 5
 unfoldable pub refusalOf : ℕ → List ℕ → Refusal
 refusalOf o l =
-    orElse (cond (laidOut l) none (refusal 1 o 0))
-    (orElse (termsRefusal o (modesOf l) 0 (λ _. true) (termsOf l)) (cond (leb (weight (termsOf l)) (2 ^ 60)) none (refusal 5 o 0)))
+    orElse (need (laidOut l) (refusal 1 o 0))
+    (orElse (termsRefusal o (modesOf l) 0 (λ _. true) (termsOf l)) (need (leb (weight (termsOf l)) (2 ^ 60)) (refusal 5 o 0)))
 
 -- a refused record has no modes, terms or weight
 abbrev pub refusedRecord : Refusal → Checked
