@@ -13,7 +13,7 @@ use Rattle.modes.specs.Counts.{parity, count, pairs}
 use Rattle.modes.specs.declared.Term.{Term}
 use Rattle.modes.specs.declared.Sign.{Sign}
 use Rattle.modes.specs.Every.{Every}
-use Rattle.modes.proofs.Every.{every-implies}
+use Rattle.modes.proofs.Every.{every-implies, sum-same}
 use Rattle.lent.specs.Rows.{Fit}
 use Rattle.products.specs.PhaseRule.{Outcome, gone, went, term}
 use Rattle.products.specs.Operators.{signed, adds, part, element}
@@ -21,7 +21,7 @@ use Rattle.products.specs.Apply.{applyResultOf}
 use Rattle.products.specs.declared.ApplyResult.the-variants.{Applied}
 use Rattle.products.proofs.Applying.{swapped-restores}
 use Rattle.adjoint.specs.Adjoint.{oddPairs, adjointTerm, adjointTerms}
-use Rattle.adjoint.proofs.Terms.{sum-adjoint, sum-same}
+use Rattle.adjoint.proofs.Terms.{sum-adjoint}
 
 -- ---- the swapped term restores the ket
 

@@ -4,17 +4,17 @@ use mathlib.Core.Bool.{Bool, true, false, cond, true≢false}
 use mathlib.Core.List.{List, [], _∷_, map}
 use Prim.Native.Nat.{ℕ, suc, _+_, _^_, _≤_}
 use native.Mathlib.Omega.{arith}
-use lib.IntN.{ℤ, natAbs, negℤ-negℤ, _+ℤ_, +ℤ-assoc, +ℤ-comm}
+use lib.IntN.{ℤ, natAbs, negℤ-negℤ, _+ℤ_}
 use lib.ListN.{length}
 use Rattle.modes.specs.declared.Term.{Term}
 use Rattle.modes.specs.Counts.{parity, pairs}
 use Rattle.modes.specs.Every.{Every, none, more}
-use Rattle.modes.proofs.Every.{every-implies, every-all}
+use Rattle.modes.proofs.Every.{every-implies, every-all, sum-same}
 use Rattle.lent.proofs.RowLaws.{term-of}
 use Rattle.products.specs.Operators.{signed}
 use Rattle.products.proofs.Signs.{abs-signed}
 use Rattle.modes.specs.Sums.{sumOf}
-use Rattle.modes.proofs.Sums.{sum-map}
+use Rattle.modes.proofs.Sums.{exchange, sum-map}
 use Rattle.record.specs.Terms.{before, Ascending, empty, above, weight}
 use Rattle.record.specs.Coefficients.{coeffIn}
 use Rattle.record.specs.Canonical.{Inside, Nonzero, Canonical}
@@ -96,7 +96,7 @@ module _ (t : Term) where
   sum-inserted w [] = refl
   sum-inserted w (u ∷ ts) =
       by-order u ts (λ us. sumOf w us ≡ w t +ℤ (w u +ℤ sumOf w ts)) refl
-      (ap (λ (z : ℤ). w u +ℤ z) (sum-inserted w ts) ∙ sym (+ℤ-assoc (w u) (w t) (sumOf w ts)) ∙ ap (λ (z : ℤ). z +ℤ sumOf w ts) (+ℤ-comm (w u) (w t)) ∙ +ℤ-assoc (w t) (w u) (sumOf w ts))
+      (ap (λ (z : ℤ). w u +ℤ z) (sum-inserted w ts) ∙ exchange (w u) (w t) (sumOf w ts))
 
   weight-inserted : (ts : List Term) → weight (inserted t ts) ≡ natAbs (t .coeff) + weight ts
   unfolding inserted weight
@@ -161,11 +161,6 @@ canonical-adjoint m ts k =
     }
 
 -- ---- lists of one sum are one list
-
-pub sum-same : (v w : Term → ℤ) (ts : List Term) → Every (λ t. v t ≡ w t) ts → sumOf v ts ≡ sumOf w ts
-unfolding sumOf
-sum-same v w [] none = refl
-sum-same v w (t ∷ ts) (more h hs) = ap (λ (z : ℤ). z +ℤ sumOf v ts) h ∙ ap (λ (z : ℤ). w t +ℤ z) (sum-same v w ts hs)
 
 -- an ascending list of the adjoint terms, whatever made it
 pub is-adjoint : (ts us : List Term) → Ascending ts → Every Nonzero ts → Ascending us → Every Nonzero us

@@ -1,6 +1,9 @@
--- What holds of every entry of a list: of two lists in turn, of what a function makes of each, and of what follows from it; and what holds between entries.
+-- What holds of every entry of a list: of two lists in turn, of what a function makes of each, of the lists of all entries, and of what follows from it; and what holds between entries.
+use mathlib.Core.Path.{_≡_, refl, ap₂}
 use mathlib.Core.List.{List, [], _∷_, _++_, map}
 use Rattle.modes.specs.Every.{Every, none, more, Pairwise, nothing, beside}
+use lib.IntN.{ℤ, _+ℤ_}
+use Rattle.modes.specs.Sums.{sumBy, sumOf, listOf}
 
 pub every-implies : {A : Type 0} {P Q : A → Type 0} (l : List A) → ((x : A) → P x → Q x) → Every P l → Every Q l
 every-implies [] f none = none
@@ -24,6 +27,17 @@ every-last l x h p = every-append l (x ∷ []) h (more p none)
 pub every-map : {A B : Type 0} {P : A → Type 0} {Q : B → Type 0} (f : A → B) (l : List A) → ((x : A) → P x → Q (f x)) → Every P l → Every Q (map f l)
 every-map f [] g none = none
 every-map f (x ∷ l) g (more h hs) = more (g x h) (every-map f l g hs)
+
+pub every-list : {A B : Type 0} {P : A → Type 0} {Q : B → Type 0} (f : A → List B) (l : List A) → ((x : A) → P x → Every Q (f x)) → Every P l → Every Q (listOf f l)
+unfolding sumBy
+every-list f [] g none = none
+every-list f (x ∷ l) g (more h hs) = every-append (f x) (listOf f l) (g x h) (every-list f l g hs)
+
+-- what is the same at every entry has the same sum
+pub sum-same : {A : Type 0} (v w : A → ℤ) (l : List A) → Every (λ x. v x ≡ w x) l → sumOf v l ≡ sumOf w l
+unfolding sumOf
+sum-same v w [] none = refl
+sum-same v w (x ∷ l) (more h hs) = ap₂ (λ (y z : ℤ). y +ℤ z) h (sum-same v w l hs)
 
 -- entries of the two lists have R where those of the one have P and those of the other have Q
 pub pairwise-append : {A : Type 0} (P Q : A → Type 0) (R : A → A → Type 0) → ((x y : A) → P x → Q y → R x y) → (l m : List A)
