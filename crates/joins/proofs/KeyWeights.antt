@@ -8,6 +8,7 @@ use lib.Dec.{eqb}
 use lib.IntN.{ℤ, pos, natAbs}
 use Rattle.modes.specs.Sums.{sumOf}
 use Rattle.modes.specs.declared.Term.{Term}
+use Rattle.modes.proofs.Sums.{natural-numbers, by-append}
 use Rattle.lent.specs.Rows.{rowsAt}
 use Rattle.integers.proofs.SignedNumbers.{abs-sum}
 use Rattle.record.specs.Terms.{weight}
@@ -24,8 +25,7 @@ coeff-below cre ann (t ∷ ts) =
 
 pub weight-append : (cre ann : ℕ) (ts us : List Term) → keyWeight cre ann (ts ++ us) ≡ keyWeight cre ann ts + keyWeight cre ann us
 unfolding keyWeight
-weight-append cre ann [] us = omega arith
-weight-append cre ann (t ∷ ts) us = let g = weight-append cre ann ts us in omega arith
+weight-append cre ann = by-append natural-numbers (λ t. natAbs (coeffIn cre ann t))
 
 pub weight-end : (cre ann : ℕ) (ts : List Term) (t : Term) → keyWeight cre ann (ts ++ (t ∷ [])) ≡ keyWeight cre ann ts + natAbs (coeffIn cre ann t)
 unfolding keyWeight

@@ -1,12 +1,13 @@
 -- The rows sorted: they are in order, and neither their coefficients nor their weights change.
 use mathlib.Core.Path.{_≡_, refl, sym, ap, _∙_, subst}
-use mathlib.Core.List.{List, [], _∷_}
+use mathlib.Core.List.{List}
 use Prim.Native.Nat.{ℕ, _+_, _*_, _≤_}
 use native.Mathlib.Nat.{zero-add}
 use native.Mathlib.Omega.{arith}
-use lib.IntN.{ℤ, pos, natAbs, _+ℤ_}
+use lib.IntN.{ℤ, pos, natAbs}
 use lib.ListN.{length}
 use Rattle.modes.specs.declared.Term.{Term}
+use Rattle.modes.proofs.Sums.{sum-through}
 use Rattle.lent.specs.Rows.{rowAt, rowsAt}
 use Rattle.rows.specs.declared.Places.{Places}
 use Rattle.rows.specs.Apart.{Apart}
@@ -22,14 +23,10 @@ use Rattle.joins.specs.Collected.{Collected}
 use Rattle.joins.specs.Steps.{InOrder}
 use Rattle.joins.proofs.Closing.{same-from}
 
--- the weight is a sum over the terms
-abbrev magnitude : ℕ → ℕ → Term → ℤ
-magnitude cre ann t = pos (natAbs (coeffIn cre ann t))
-
-weight-sum : (cre ann : ℕ) (ts : List Term) → sumOf (magnitude cre ann) ts ≡ pos (keyWeight cre ann ts)
+-- the weight as a sum of whole numbers
+weight-sum : (cre ann : ℕ) (ts : List Term) → pos (keyWeight cre ann ts) ≡ sumOf (λ t. pos (natAbs (coeffIn cre ann t))) ts
 unfolding sumOf keyWeight
-weight-sum cre ann [] = refl
-weight-sum cre ann (t ∷ ts) = ap (λ (z : ℤ). magnitude cre ann t +ℤ z) (weight-sum cre ann ts)
+weight-sum cre ann = sum-through {h = pos} (record { none = refl; add = λ x y. refl }) (λ t. natAbs (coeffIn cre ann t))
 
 -- rows at the front are places
 pub front-apart : (places : Places) (n size : ℕ) → places ≡ rowPlaces 0 → 24 * n ≤ size → Apart places n size
@@ -47,7 +44,7 @@ module _ (n : ℕ) (l m : List ℕ) (places : Places) (front : places ≡ rowPla
 
   sorted-weight : (cre ann : ℕ) → keyWeight cre ann (rowsAt m 0 n) ≡ keyWeight cre ann (rowsAt l 0 n)
   sorted-weight cre ann =
-      ap natAbs (sym (weight-sum cre ann (rowsAt m 0 n)) ∙ rows-sum (magnitude cre ann) ∙ weight-sum cre ann (rowsAt l 0 n))
+      ap natAbs (weight-sum cre ann (rowsAt m 0 n) ∙ rows-sum (λ t. pos (natAbs (coeffIn cre ann t))) ∙ sym (weight-sum cre ann (rowsAt l 0 n)))
 
   sorted-order : InOrder m n
   sorted-order k h =
