@@ -1,6 +1,5 @@
 -- The three ways through the call: refused, too many, or counted.
 use mathlib.Core.Path.{_≡_, sym, ap, ap₂, _∙_}
-use mathlib.Core.Bool.{false}
 use mathlib.Core.List.{List}
 use Prim.Native.Nat.{ℕ, _+_, _*_, _^_, _≤_, _<_}
 use native.Mathlib.Omega.{arith}
@@ -13,7 +12,7 @@ use Rattle.modes.proofs.Refusals.{or-first, or-second}
 use Rattle.lincomb.specs.Results.{pairRefusal, openedOf}
 use Rattle.lincomb.specs.declared.Opened.{Opened}
 use Rattle.lincomb.proofs.Results.{Opens, opens, shuts, sound}
-use Rattle.pairs.specs.Products.{allBranches}
+use Rattle.pairs.specs.Products.{branchesOfAll}
 use Rattle.multiply.specs.Answers.{workRefusal}
 use Rattle.branches.specs.Ceiling.{most, upTo}
 use Rattle.branches.specs.Branches.{counted, uncounted, branchesIn, branchesRefusal, branchesTold}
@@ -53,13 +52,13 @@ module _ (a b : List ℕ) (p : Opened) (ep : p ≡ openedOf a b) where
     after-pair = or-second (pairRefusal a b) _ (ap (λ (r : Refusal). r .number) (ready .pair))
 
     -- f and g are the counts of the two orders
-    module _ (f g : ℕ) (ef : f ≡ upTo (allBranches false (termsIn a (p .left)) (termsIn b (p .right))))
-        (eg : g ≡ upTo (allBranches false (termsIn b (p .right)) (termsIn a (p .left)))) where
+    module _ (f g : ℕ) (ef : f ≡ upTo (branchesOfAll (termsIn a (p .left)) (termsIn b (p .right))))
+        (eg : g ≡ upTo (branchesOfAll (termsIn b (p .right)) (termsIn a (p .left)))) where
       forward-is : f ≡ upTo (branchesIn a b)
-      forward-is = ef ∙ ap₂ (λ (x y : ℕ). upTo (allBranches false (termsIn a x) (termsIn b y))) (ready .left) (ready .right)
+      forward-is = ef ∙ ap₂ (λ (x y : ℕ). upTo (branchesOfAll (termsIn a x) (termsIn b y))) (ready .left) (ready .right)
 
       backward-is : g ≡ upTo (branchesIn b a)
-      backward-is = eg ∙ ap₂ (λ (x y : ℕ). upTo (allBranches false (termsIn b x) (termsIn a y))) (ready .right) (ready .left)
+      backward-is = eg ∙ ap₂ (λ (x y : ℕ). upTo (branchesOfAll (termsIn b x) (termsIn a y))) (ready .right) (ready .left)
 
       pub sum-fits : f + g ≤ 2 * most + 2
       sum-fits = rw (forward-is, backward-is) (sum-below (branchesIn a b) (branchesIn b a))

@@ -1,5 +1,5 @@
 -- The branches of the two products of two records, told without multiplying them out.
-use mathlib.Core.Bool.{false, cond}
+use mathlib.Core.Bool.{cond}
 use mathlib.Core.List.{List}
 use Prim.Native.Nat.{ℕ, _+_, _^_}
 use lib.Dec.{eqb}
@@ -8,7 +8,7 @@ use Rattle.modes.specs.Answers.{none}
 use Rattle.record.specs.Layout.{termsOf}
 use Rattle.modes.specs.Refusals.{orElse}
 use Rattle.lincomb.specs.Results.{pairRefusal}
-use Rattle.pairs.specs.Products.{allBranches}
+use Rattle.pairs.specs.Products.{branchesOfAll}
 use Rattle.multiply.specs.Answers.{workRefusal}
 use Rattle.branches.specs.declared.BranchCounts.{BranchCounts}
 
@@ -21,7 +21,7 @@ uncounted r = record { refusal = r; forward = 0; backward = 0 }
 
 -- one order alone: the branches of the product of the first record and the second
 abbrev pub branchesIn : List ℕ → List ℕ → ℕ
-branchesIn a b = allBranches false (termsOf a) (termsOf b)
+branchesIn a b = branchesOfAll (termsOf a) (termsOf b)
 
 -- both records and 6; then 7, if no work of up to 2^63 bytes would hold a row for each branch of both orders
 unfoldable pub branchesRefusal : List ℕ → List ℕ → Refusal

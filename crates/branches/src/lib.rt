@@ -1,14 +1,12 @@
 // How many branches the products of two records have: the rows of work that they take, told without work.
 use modes::Refusal;
 use modes::Term;
-use products::ProductHelper;
 ghost use mathlib.Core.Path.{_≡_};
-ghost use mathlib.Core.Bool.{false};
 ghost use Prim.Native.Nat.{_+_, _*_, _^_, _≤_};
 ghost use lib.Count.{ones};
 ghost use lib.ListN.{length};
 ghost use Rattle.record.specs.Layout.{termsIn};
-ghost use Rattle.pairs.specs.Products.{branchesOf, branchesWith, allBranches};
+ghost use Rattle.pairs.specs.Products.{branchesOf, branchesWith, branchesOfAll};
 ghost use Rattle.branches.specs.Ceiling.{most, upTo};
 ghost use Rattle.branches.specs.Branches.{uncounted, branchesTold};
 
@@ -58,12 +56,7 @@ fn rows_of(left: u64) -> u64
 fn of_pair(t: Term, u: Term) -> u64
     ensures { λ r. ⌜ r ≡ upTo (branchesOf t u) ⌝ }
 {
-    let helper = ProductHelper {
-        l_cre: t.cre,
-        l_ann: t.ann,
-        r_cre: u.cre,
-        r_ann: u.ann,
-    };
+    let helper = pairs::helper_of(t, u);
     if helper.destroys() {
         return 0;
     }
@@ -73,7 +66,7 @@ fn of_pair(t: Term, u: Term) -> u64
 // The branches of the term t with each of the n terms of b.
 fn of_term(t: Term, b: &[u8], n: usize) -> u64
     requires { ⌜ 32 + 24 * n ≤ length (now b) ⌝ }
-    ensures { λ r. ⌜ r ≡ upTo (branchesWith false t (termsIn (now (b .entry)) n)) ⌝ }
+    ensures { λ r. ⌜ r ≡ upTo (branchesWith t (termsIn (now (b .entry)) n)) ⌝ }
 {
     let mut so_far = 0;
     let mut j = 0;
@@ -88,7 +81,7 @@ fn of_term(t: Term, b: &[u8], n: usize) -> u64
 // The branches of all pairs of a term of a and a term of b.
 fn of_all(a: &[u8], na: usize, b: &[u8], nb: usize) -> u64
     requires { ⌜ (32 + 24 * na ≤ length (now a)) × (32 + 24 * nb ≤ length (now b)) ⌝ }
-    ensures { λ r. ⌜ r ≡ upTo (allBranches false (termsIn (now (a .entry)) na) (termsIn (now (b .entry)) nb)) ⌝ }
+    ensures { λ r. ⌜ r ≡ upTo (branchesOfAll (termsIn (now (a .entry)) na) (termsIn (now (b .entry)) nb)) ⌝ }
 {
     let mut so_far = 0;
     let mut i = 0;

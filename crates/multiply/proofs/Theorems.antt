@@ -1,7 +1,7 @@
--- What `mul`, `commutator` and `anticommutator` leave where they do not refuse: a record that is accepted, with the elements that the two operators in turn give.
+-- What `mul`, `commutator` and `anticommutator` leave where they do not refuse: a record that is accepted, with the elements that the two operators give, one after the other.
 use mathlib.Core.Path.{_≡_, ap, _∙_}
 use mathlib.Core.Bool.{Bool, true, false, cond}
-use mathlib.Core.List.{List, [], _∷_}
+use mathlib.Core.List.{List, []}
 use Prim.Native.Nat.{ℕ, _≤_}
 use native.Mathlib.Nat.{lt-of-lt-of-le}
 use lib.IntN.{ℤ, negℤ, _+ℤ_, _*ℤ_, +ℤ-idr}
@@ -11,7 +11,7 @@ use Rattle.modes.specs.declared.Term.{Term}
 use Rattle.modes.specs.declared.Written.{Written}
 use Rattle.modes.specs.Answers.{none}
 use Rattle.modes.specs.Every.{Every, none as nothing, more}
-use Rattle.modes.proofs.Every.{every-implies, every-append}
+use Rattle.modes.proofs.Every.{every-implies, every-append, every-list}
 use Rattle.lent.specs.Outputs.{Gives}
 use Rattle.products.specs.Operators.{signed, element}
 use Rattle.products.specs.Product.{rowsTimes}
@@ -29,7 +29,7 @@ use Rattle.lincomb.proofs.Totals.{element-normal}
 use Rattle.lincomb.proofs.Normal.{every-normal, normal-ascending, normal-nonzero}
 use Rattle.lincomb.proofs.Sums.{inside-joins}
 use Rattle.lincomb.proofs.Results.{first-fine, second-fine, same-modes, result-earlier, result-accepted, result-modes, result-terms}
-use Rattle.pairs.specs.Products.{pairRows, rowsWith, allRows, allBranches, inTurn}
+use Rattle.pairs.specs.Products.{pairRows, allRows, allBranches, inSuccession}
 use Rattle.multiply.specs.Answers.{weightRefusal, workRefusal, earlyRefusal, productAnswer, productOf, commutatorOf, anticommutatorOf}
 use Rattle.multiply.proofs.Elements.{other, all-elements}
 
@@ -50,15 +50,8 @@ module _ (m : ℕ) where
         go true = rows-inside u t (signed minus (t .coeff *ℤ u .coeff)) hu ht
         go false = nothing
 
-    with-inside : (t : Term) (us : List Term) → Inside m t → Every (Inside m) us → Every (Inside m) (rowsWith both minus t us)
-    unfolding rowsWith
-    with-inside t [] ht nothing = nothing
-    with-inside t (u ∷ us) ht (more hu hus) = every-append (pairRows both minus t u) (rowsWith both minus t us) (pair-inside t u ht hu) (with-inside t us ht hus)
-
     all-inside : (ts us : List Term) → Every (Inside m) ts → Every (Inside m) us → Every (Inside m) (allRows both minus ts us)
-    unfolding allRows
-    all-inside [] us nothing hus = nothing
-    all-inside (t ∷ ts) us (more ht hts) hus = every-append (rowsWith both minus t us) (allRows both minus ts us) (with-inside t us ht hus) (all-inside ts us hts hus)
+    all-inside ts us hts hus = every-list _ ts (λ t ht. every-list _ us (λ u. pair-inside t u ht) hus) hts
 
 wider : (m : ℕ) → m ≤ 64 → (ts : List Term) → Every (Inside m) ts → Every (Inside 64) ts
 wider m h ts = every-implies ts (λ t k. record { ann = lt-of-lt-of-le (k .ann) (pow-mono h); cre = lt-of-lt-of-le (k .cre) (pow-mono h) })
@@ -101,25 +94,25 @@ module _ (both minus : Bool) (work room : ℕ) (a b : List ℕ) (r : Written) (a
       result-terms room branches (earlyRefusal both work a b) (modesOf a) (normal rows) r after g z (left .some) (left .most) within (normal-ascending rows) (normal-nonzero rows)
 
   product-elements : (bra ket : ℕ) → element bra ket (termsOf (take (r .len) after))
-      ≡ inTurn bra ket (termsOf a) (termsOf b) +ℤ other both minus (inTurn bra ket (termsOf b) (termsOf a))
+      ≡ inSuccession bra ket (termsOf a) (termsOf b) +ℤ other both minus (inSuccession bra ket (termsOf b) (termsOf a))
   product-elements bra ket =
       ap (element bra ket) product-terms ∙ element-normal bra ket rows
       ∙ all-elements bra ket both minus (termsOf a) (termsOf b) (wider (modesOf a) (left .most) (termsOf a) (left .inside)) (wider (modesOf a) (left .most) (termsOf b) right)
 
 -- THE PRODUCT: at every bra and ket the record left has the element that b and then a give, ladder by ladder
 pub mul-elements : (work room : ℕ) (a b : List ℕ) (r : Written) (after : List ℕ) → Gives (productOf work room a b) r after → r .refusal .number ≡ 0 → (bra ket : ℕ)
-    → element bra ket (termsOf (take (r .len) after)) ≡ inTurn bra ket (termsOf a) (termsOf b)
+    → element bra ket (termsOf (take (r .len) after)) ≡ inSuccession bra ket (termsOf a) (termsOf b)
 unfolding other
-mul-elements work room a b r after g z bra ket = product-elements false false work room a b r after g z bra ket ∙ +ℤ-idr (inTurn bra ket (termsOf a) (termsOf b))
+mul-elements work room a b r after g z bra ket = product-elements false false work room a b r after g z bra ket ∙ +ℤ-idr (inSuccession bra ket (termsOf a) (termsOf b))
 
 -- THE COMMUTATOR: minus the other order
 pub commutator-elements : (work room : ℕ) (a b : List ℕ) (r : Written) (after : List ℕ) → Gives (commutatorOf work room a b) r after → r .refusal .number ≡ 0 → (bra ket : ℕ)
-    → element bra ket (termsOf (take (r .len) after)) ≡ inTurn bra ket (termsOf a) (termsOf b) +ℤ negℤ (inTurn bra ket (termsOf b) (termsOf a))
+    → element bra ket (termsOf (take (r .len) after)) ≡ inSuccession bra ket (termsOf a) (termsOf b) +ℤ negℤ (inSuccession bra ket (termsOf b) (termsOf a))
 unfolding other
 commutator-elements = product-elements true true
 
 -- THE ANTICOMMUTATOR: plus the other order
 pub anticommutator-elements : (work room : ℕ) (a b : List ℕ) (r : Written) (after : List ℕ) → Gives (anticommutatorOf work room a b) r after → r .refusal .number ≡ 0 → (bra ket : ℕ)
-    → element bra ket (termsOf (take (r .len) after)) ≡ inTurn bra ket (termsOf a) (termsOf b) +ℤ inTurn bra ket (termsOf b) (termsOf a)
+    → element bra ket (termsOf (take (r .len) after)) ≡ inSuccession bra ket (termsOf a) (termsOf b) +ℤ inSuccession bra ket (termsOf b) (termsOf a)
 unfolding other
 anticommutator-elements = product-elements true false

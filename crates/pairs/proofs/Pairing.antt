@@ -1,4 +1,4 @@
--- The coefficients of a pair of terms, as the code makes them, and the rows of one pair, of one term with all, and of all.
+-- The coefficients of a pair of terms, as the code makes them, and the rows of one pair after the other.
 use mathlib.Core.Path.{_≡_, refl, sym, ap, ap₂, _∙_, subst}
 use mathlib.Core.Bool.{Bool, true, false}
 use mathlib.Core.List.{List, [], _++_, append-nil, append-assoc}
@@ -6,7 +6,7 @@ use Prim.Native.Nat.{ℕ, _+_, _*_, _^_, _≤_, _<_}
 use native.Mathlib.Nat.{mul-le-mul, le-refl, le-trans}
 use native.Mathlib.Omega.{arith}
 use lib.IntN.{ℤ, natAbs, _*ℤ_}
-use lib.ListN.{length, drop}
+use lib.ListN.{length}
 use mir.Syntax.{w64}
 use mir.Val.{SFits, toZ, ofZ}
 use mir.Facts.{toZ-ofZ}
@@ -18,7 +18,7 @@ use Rattle.products.proofs.Signs.{abs-signed}
 use Rattle.record.specs.Terms.{weight}
 use Rattle.record.specs.Reading.{At}
 use Rattle.record.proofs.Weights.{weight-at}
-use Rattle.pairs.specs.Products.{pairRows, rowsWith, allRows}
+use Rattle.pairs.specs.Products.{pairRows}
 use Rattle.pairs.specs.Filling.{Room, Filled, Grown, filled, Adds}
 use Rattle.pairs.specs.declared.Fill.{Fill}
 use Rattle.pairs.proofs.Filling.{nothing-filled, filled-as, over-more, not-over}
@@ -109,25 +109,6 @@ module _ (whole left : List Term) (l₀ : List ℕ) (s₀ : Fill) (l : List ℕ)
 -- nothing stood in the work before the first pair
 pub from-nothing : (whole : List Term) (l m : List ℕ) (r : Fill) → Adds whole l (record { used = 0; held = 0 }) m r → Grown whole m r
 from-nothing whole l m r a = a .grows [] (nothing-filled l)
-
--- ---- which rows are to come
-
-module _ (both minus : Bool) where
-  pub with-next : (t : Term) (us : List Term) (j : ℕ) (u : Term) → At us j u → rowsWith both minus t (drop j us) ≡ pairRows both minus t u ++ rowsWith both minus t (drop (j + 1) us)
-  unfolding rowsWith
-  with-next t us j u e = ap (rowsWith both minus t) e
-
-  pub with-none : (t : Term) (us : List Term) → us ≡ [] → rowsWith both minus t us ≡ []
-  unfolding rowsWith
-  with-none t us e = ap (rowsWith both minus t) e
-
-  pub all-next : (ts us : List Term) (i : ℕ) (t : Term) → At ts i t → allRows both minus (drop i ts) us ≡ rowsWith both minus t us ++ allRows both minus (drop (i + 1) ts) us
-  unfolding allRows
-  all-next ts us i t e = ap (λ (vs : List Term). allRows both minus vs us) e
-
-  pub all-none : (ts us : List Term) → ts ≡ [] → allRows both minus ts us ≡ []
-  unfolding allRows
-  all-none ts us e = ap (λ (vs : List Term). allRows both minus vs us) e
 
 -- a term's part of the two weights' product
 pub one-light : (ts : List Term) (w i : ℕ) (t : Term) → At ts i t → weight ts * w ≤ 2 ^ 60 → natAbs (t .coeff) * w ≤ 2 ^ 60

@@ -12,9 +12,8 @@ use mir.Syntax.{w64}
 use mir.Val.{SFits, toZ, ofZ}
 use mir.Facts.{toZ-ofZ}
 use borrow.Author.Tests.{eqb-true}
-use Rattle.modes.specs.Sums.{sumOf}
 use Rattle.modes.specs.declared.Term.{Term}
-use Rattle.modes.proofs.Sums.{sum-append}
+use Rattle.modes.proofs.Sums.{sum-append, sum-last}
 use Rattle.lent.specs.Rows.{rowAt, putRow, rowsAt, Fit}
 use Rattle.lent.proofs.RowLaws.{rows-put}
 use Rattle.record.specs.Coefficients.{coeffIn, coeffOf}
@@ -59,14 +58,11 @@ stands-swap us xs ys = record {
 
 -- two rows that cancel, gone from the end
 pub stands-cancel : (us : List Term) (x y : Term) → Opposite x y → Stands us ((us ++ (y ∷ [])) ++ (x ∷ []))
-unfolding sumOf
 stands-cancel us x y o = record {
   coeff = λ c a. sym (
-      sum-append (coeffIn c a) (us ++ (y ∷ [])) (x ∷ []) ∙ ap (λ (z : ℤ). z +ℤ (coeffIn c a x +ℤ pos 0)) (sum-append (coeffIn c a) us (y ∷ []))
-      ∙ +ℤ-assoc (coeffOf c a us) (coeffIn c a y +ℤ pos 0) (coeffIn c a x +ℤ pos 0)
-      ∙ ap (λ (z : ℤ). coeffOf c a us +ℤ z)
-      (ap₂ (λ (p q : ℤ). p +ℤ q) (+ℤ-idr (coeffIn c a y)) (+ℤ-idr (coeffIn c a x)) ∙ +ℤ-comm (coeffIn c a y) (coeffIn c a x) ∙ nothing c a)
-      ∙ +ℤ-idr (coeffOf c a us));
+      sum-last (coeffIn c a) (us ++ (y ∷ [])) x ∙ ap (λ (z : ℤ). z +ℤ coeffIn c a x) (sum-last (coeffIn c a) us y)
+      ∙ +ℤ-assoc (coeffOf c a us) (coeffIn c a y) (coeffIn c a x)
+      ∙ ap (λ (z : ℤ). coeffOf c a us +ℤ z) (+ℤ-comm (coeffIn c a y) (coeffIn c a x) ∙ nothing c a) ∙ +ℤ-idr (coeffOf c a us));
   light = λ c a. omega (arith, weight-append c a (us ++ (y ∷ [])) (x ∷ []), weight-append c a us (y ∷ []));
 }
   where

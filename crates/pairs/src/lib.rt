@@ -24,7 +24,7 @@ pub struct Fill {
 }
 
 // The words of the product t u.
-fn helper_of(t: Term, u: Term) -> ProductHelper
+pub fn helper_of(t: Term, u: Term) -> ProductHelper
     ensures { λ r. ⌜ r ≡ record { «l_cre» = t .cre; «l_ann» = t .ann; «r_cre» = u .cre; «r_ann» = u .ann } ⌝ }
 {
     ProductHelper {

@@ -8,7 +8,7 @@ use Rattle.modes.specs.Answers.{none}
 use Rattle.products.specs.Operators.{element}
 use Rattle.record.specs.Layout.{modesOf, termsOf}
 use Rattle.record.specs.Refusals.{refusalOf}
-use Rattle.pairs.specs.Products.{inTurn}
+use Rattle.pairs.specs.Products.{inSuccession}
 use Rattle.stream.specs.Lines.{refusedLine}
 use Rattle.stream.specs.Replies.{firstOf, secondOf}
 
@@ -16,7 +16,7 @@ use Rattle.stream.specs.Replies.{firstOf, secondOf}
 pub record Commutator (a b text : List ℕ) : Type 0 where
   pub accepted : (o : ℕ) → refusalOf o text ≡ none
   pub modes : modesOf text ≡ modesOf a
-  pub elements : (bra ket : ℕ) → element bra ket (termsOf text) ≡ inTurn bra ket (termsOf a) (termsOf b) +ℤ negℤ (inTurn bra ket (termsOf b) (termsOf a))
+  pub elements : (bra ket : ℕ) → element bra ket (termsOf text) ≡ inSuccession bra ket (termsOf a) (termsOf b) +ℤ negℤ (inSuccession bra ket (termsOf b) (termsOf a))
 
 pub data Reported (input text : List ℕ) : Type 0 where
   line : (f : Refusal) → (f .number ≡ 0 → ⊥) → text ≡ refusedLine f → Reported input text

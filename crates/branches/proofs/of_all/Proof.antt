@@ -1,20 +1,20 @@
 -- `branches::of_all` meets its contract: what is counted, with what is left, makes the whole.
-use mathlib.Core.Bool.{false}
-use Prim.Native.Nat.{_-_, _≤_}
+use Prim.Native.Nat.{_+_, _-_, _≤_}
 use native.Mathlib.Omega.{arith}
 use lib.ListN.{drop}
+use Rattle.modes.specs.declared.Term.{Term}
+use Rattle.modes.proofs.Sums.{by-front, by-nothing}
 use Rattle.record.specs.Layout.{termsIn}
 use Rattle.record.proofs.Reading.{none-left}
-use Rattle.pairs.specs.Products.{allBranches}
+use Rattle.pairs.specs.Products.{branchesWith, branchesOfAll}
 use Rattle.branches.proofs.Ceiling.{Counts, counts-start, counted, all-counted, up-small}
-use Rattle.branches.proofs.Going.{all-next, all-none}
 use borrow.Author.Needs.{needs}
 use Rattle.branches.proofs.of_all.Statement.{statement}
 use Rattle.branches.proofs.of_all.Tie as tie
 
 abbrev Inv-loop : tie.InvT-loop
 Inv-loop a na b nb so-far₀ i₀ so-far i =
-    (i ≤ na) × Counts so-far (allBranches false (drop i (termsIn a na)) (termsIn b nb)) (allBranches false (termsIn a na) (termsIn b nb))
+    (i ≤ na) × Counts so-far (branchesOfAll (drop i (termsIn a na)) (termsIn b nb)) (branchesOfAll (termsIn a na) (termsIn b nb))
 
 abbrev μ-loop : tie.MeasureT-loop
 μ-loop a na b nb so-far₀ i₀ so-far i = na - i
@@ -41,14 +41,14 @@ loop-again : tie.Need-loop-again Inv-loop μ-loop
 loop-again c =
     let s = c .before .before .before .before .before .before .before .args in
     let v = c .before .before .before .before .loop in
-    let next = all-next (termsIn (s .a .now) (s .na)) (termsIn (s .b .now) (s .nb)) (v .i) _ (c .before .before .read-term .ensures) in
+    let next = by-front _+_ 0 (λ (t : Term). branchesWith t (termsIn (s .b .now) (s .nb))) (c .before .before .read-term .ensures) in
     (search needs, counted _ _ (v .inv .1) next (c .before .of-term .ensures) (c .more .ensures))
 
 returns : tie.Need-returns Inv-loop μ-loop
 returns c =
     let s = c .before .before .before .before .args in
     let v = c .before .loop in
-    all-counted (v .inv .1) (all-none _ (termsIn (s .b .now) (s .nb)) (none-left (s .a .now) (s .na) (v .i) (omega arith)))
+    all-counted (v .inv .1) (by-nothing _+_ 0 (λ (t : Term). branchesWith t (termsIn (s .b .now) (s .nb))) (none-left (s .a .now) (s .na) (v .i) (omega arith)))
 
 pub of-all-spec : {M : Type 1} → statement M
 of-all-spec =

@@ -1,19 +1,18 @@
 -- `branches::of_term` meets its contract: what is counted, with what is left, makes the whole.
-use mathlib.Core.Bool.{false}
-use Prim.Native.Nat.{_-_, _≤_}
+use Prim.Native.Nat.{_+_, _-_, _≤_}
 use native.Mathlib.Omega.{arith}
 use lib.ListN.{drop}
+use Rattle.modes.proofs.Sums.{by-front, by-nothing}
 use Rattle.record.specs.Layout.{termsIn}
 use Rattle.record.proofs.Reading.{none-left}
-use Rattle.pairs.specs.Products.{branchesWith}
+use Rattle.pairs.specs.Products.{branchesOf, branchesWith}
 use Rattle.branches.proofs.Ceiling.{Counts, counts-start, counted, all-counted, up-small}
-use Rattle.branches.proofs.Going.{with-next, with-none}
 use borrow.Author.Needs.{needs}
 use Rattle.branches.proofs.of_term.Statement.{statement}
 use Rattle.branches.proofs.of_term.Tie as tie
 
 abbrev Inv-loop : tie.InvT-loop
-Inv-loop t b n so-far₀ j₀ so-far j = (j ≤ n) × Counts so-far (branchesWith false t (drop j (termsIn b n))) (branchesWith false t (termsIn b n))
+Inv-loop t b n so-far₀ j₀ so-far j = (j ≤ n) × Counts so-far (branchesWith t (drop j (termsIn b n))) (branchesWith t (termsIn b n))
 
 abbrev μ-loop : tie.MeasureT-loop
 μ-loop t b n so-far₀ j₀ so-far j = n - j
@@ -40,14 +39,14 @@ loop-again : tie.Need-loop-again Inv-loop μ-loop
 loop-again c =
     let s = c .before .before .before .before .before .before .args in
     let v = c .before .before .before .before .loop in
-    let next = with-next (s .t) (termsIn (s .b .now) (s .n)) (v .j) _ (c .before .before .read-term .ensures) in
+    let next = by-front _+_ 0 (branchesOf (s .t)) (c .before .before .read-term .ensures) in
     (search needs, counted _ _ (v .inv .1) next (c .before .of-pair .ensures) (c .more .ensures))
 
 returns : tie.Need-returns Inv-loop μ-loop
 returns c =
     let s = c .before .before .before .args in
     let v = c .before .loop in
-    all-counted (v .inv .1) (with-none (s .t) _ (none-left (s .b .now) (s .n) (v .j) (omega arith)))
+    all-counted (v .inv .1) (by-nothing _+_ 0 (branchesOf (s .t)) (none-left (s .b .now) (s .n) (v .j) (omega arith)))
 
 pub of-term-spec : {M : Type 1} → statement M
 of-term-spec =

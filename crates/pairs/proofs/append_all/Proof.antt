@@ -1,13 +1,16 @@
 -- `pairs::append_all` meets its contract: of the rows of all pairs, some are there and the rest is to come.
 use mathlib.Core.Path.{_∙_}
+use mathlib.Core.List.{[], _++_}
 use Prim.Native.Nat.{_-_, _≤_}
 use native.Mathlib.Omega.{arith}
 use lib.ListN.{drop}
+use Rattle.modes.specs.declared.Term.{Term}
+use Rattle.modes.proofs.Sums.{by-front, by-nothing}
 use Rattle.record.specs.Terms.{weight}
 use Rattle.record.specs.Layout.{termsIn}
 use Rattle.record.proofs.Reading.{none-left}
-use Rattle.pairs.specs.Products.{allRows}
-use Rattle.pairs.proofs.Pairing.{Progress, progress-starts, progress-goes, progress-over, progress-ends, from-nothing, all-next, all-none, one-light}
+use Rattle.pairs.specs.Products.{rowsWith, allRows}
+use Rattle.pairs.proofs.Pairing.{Progress, progress-starts, progress-goes, progress-over, progress-ends, from-nothing, one-light}
 use borrow.Author.Needs.{needs}
 use Rattle.pairs.proofs.append_all.Statement.{statement}
 use Rattle.pairs.proofs.append_all.Tie as tie
@@ -42,7 +45,7 @@ returns c =
     let s = c .before .before .before .before .before .before .before .before .before .before .before .before in
     let v = c .before .before .before .before .before .before .before .before .loop in
     let step = c .before .before .before .before .append-with in
-    from-nothing _ (s .args .work .now) _ _ (progress-over _ _ (s .args .work .now) _ (v .work) (v .at) (v .inv .1) _ _ (all-next (s .args .both) (s .args .sign .0) (termsIn (s .args .a .now) (s .args .na)) (termsIn (s .args .b .now) (s .args .nb)) (v .i) _ (c .before .before .before .before .before .before .read-term .ensures)) (step .last .1 .1 .0) (step .result) (step .kept .1 .1 .0) (step .ensures) (c .if1 .taken))
+    from-nothing _ (s .args .work .now) _ _ (progress-over _ _ (s .args .work .now) _ (v .work) (v .at) (v .inv .1) _ _ (by-front _++_ [] (λ (t : Term). rowsWith (s .args .both) (s .args .sign .0) t (termsIn (s .args .b .now) (s .args .nb))) (c .before .before .before .before .before .before .read-term .ensures)) (step .last .1 .1 .0) (step .result) (step .kept .1 .1 .0) (step .ensures) (c .if1 .taken))
 
 add-i : tie.Need-add-i Inv-loop μ-loop
 add-i c = search needs
@@ -55,7 +58,7 @@ loop-again c =
     let s = c .before .before .before .before .before .before .before .before .before .before .before .before in
     let v = c .before .before .before .before .before .before .before .before .loop in
     let step = c .before .before .before .before .append-with in
-    (omega (arith, c .before .before .before .before .before .before .before .loop-test), progress-goes _ _ (s .args .work .now) _ (v .work) (v .at) (v .inv .1) _ _ (all-next (s .args .both) (s .args .sign .0) (termsIn (s .args .a .now) (s .args .na)) (termsIn (s .args .b .now) (s .args .nb)) (v .i) _ (c .before .before .before .before .before .before .read-term .ensures)) (step .last .1 .1 .0) (step .result) (step .kept .1 .1 .0) (step .ensures) (c .if1 .left))
+    (omega (arith, c .before .before .before .before .before .before .before .loop-test), progress-goes _ _ (s .args .work .now) _ (v .work) (v .at) (v .inv .1) _ _ (by-front _++_ [] (λ (t : Term). rowsWith (s .args .both) (s .args .sign .0) t (termsIn (s .args .b .now) (s .args .nb))) (c .before .before .before .before .before .before .read-term .ensures)) (step .last .1 .1 .0) (step .result) (step .kept .1 .1 .0) (step .ensures) (c .if1 .left))
 
 same-length-2 : tie.Need-same-length-2 Inv-loop μ-loop
 same-length-2 c = c .before .loop .inv .1 .len
@@ -65,7 +68,7 @@ returns-2 c =
     let s = c .before .before .before .before .before in
     let v = c .before .loop in
     from-nothing _ (s .args .work .now) _ _
-    (progress-ends _ _ (s .args .work .now) _ (v .work) (v .at) (v .inv .1) (all-none (s .args .both) (s .args .sign .0) _ (termsIn (s .args .b .now) (s .args .nb)) (none-left (s .args .a .now) (s .args .na) (v .i) (omega arith))))
+    (progress-ends _ _ (s .args .work .now) _ (v .work) (v .at) (v .inv .1) (by-nothing _++_ [] (λ (t : Term). rowsWith (s .args .both) (s .args .sign .0) t (termsIn (s .args .b .now) (s .args .nb))) (none-left (s .args .a .now) (s .args .na) (v .i) (omega arith))))
 
 pub append-all-spec : {M : Type 1} → statement M
 append-all-spec =

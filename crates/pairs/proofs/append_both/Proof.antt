@@ -16,8 +16,8 @@ use Rattle.pairs.proofs.append_both.Tie as tie
 abbrev in-order : tie.Start → List Term
 in-order s = rowsTimes (s .args .t .cre) (s .args .t .ann) (s .args .u .cre) (s .args .u .ann) (s .args .coeff)
 
-abbrev in-turn : tie.Start → List Term
-in-turn s = rowsTimes (s .args .u .cre) (s .args .u .ann) (s .args .t .cre) (s .args .t .ann) (s .args .swapped)
+abbrev in-reverse : tie.Start → List Term
+in-reverse s = rowsTimes (s .args .u .cre) (s .args .u .ann) (s .args .t .cre) (s .args .t .ann) (s .args .swapped)
 
 -- once the first product's rows are written
 abbrev start : tie.After-append → tie.Start
@@ -37,7 +37,7 @@ abbrev once : tie.After-append3 → tie.After-append
 once j = j .before .before .before .before .before .before .before .before .before .before .before .before .before .before
 
 second : (j : tie.After-append3)
-    → Appended (in-turn (start (once j))) (once j .append .last .0) (record { used = once j .append .result .used - 24; held = once j .append .result .held }) (j .append3 .last .0) (j .append3 .result)
+    → Appended (in-reverse (start (once j))) (once j .append .last .0) (record { used = once j .append .result .used - 24; held = once j .append .result .held }) (j .append3 .last .0) (j .append3 .result)
 second j =
     let s = start (once j) in
     appended-as (s .args .u) (s .args .t) (s .args .swapped) _ (j .before .helper-of3 .ensures) (s .fits .swapped) (j .append3 .ensures)
@@ -52,7 +52,7 @@ same-length : tie.Need-same-length
 same-length c = search needs
 
 returns : tie.Need-returns
-returns c = let k = c .before .before .before .before in adds-over (in-order (start k)) (in-turn (start k)) (product-adds (first k)) (c .if1 .taken)
+returns c = let k = c .before .before .before .before in adds-over (in-order (start k)) (in-reverse (start k)) (product-adds (first k)) (c .if1 .taken)
 
 helper-of-requires-2 : tie.Need-helper-of-requires-2
 helper-of-requires-2 c κs = search needs
@@ -72,12 +72,12 @@ returns-2 c =
     let s = start k in
     let two = c .before .before .append2 in
     let few = c .before .before .before .before .before .before .before .before .if1 .left in
-    let other : Product (in-turn s) (k .append .last .0) (k .append .result) (two .last .0) (two .result) = record {
+    let other : Product (in-reverse s) (k .append .last .0) (k .append .result) (two .last .0) (two .result) = record {
       ready = product-room (first k) few;
       len = two .kept .0;
       is = appended-as (s .args .u) (s .args .t) (s .args .swapped) _ (c .before .before .before .helper-of2 .ensures) (s .fits .swapped) (two .ensures);
     } in
-    adds-then (in-order s) (in-turn s) (product-adds (first k)) few (product-adds other)
+    adds-then (in-order s) (in-reverse s) (product-adds (first k)) few (product-adds other)
 
 sub-get-row : tie.Need-sub-get-row
 sub-get-row c = last-row (first (c .before .before .before .before .before .before .before .before .before)) (c .before .before .before .before .before .if1 .left) (c .before .before .if2 .left)
@@ -103,12 +103,12 @@ same-length-3 c = search needs
 returns-3 : tie.Need-returns-3
 returns-3 c =
     let j = c .before .before .before .before in
-    second-over (first (once j)) (j .before .before .before .before .before .before .before .before .before .before .if1 .left) (j .before .before .before .before .before .before .before .if2 .left) (in-turn (start (once j))) (j .append3 .kept .0) (second j) (c .if3 .taken)
+    second-over (first (once j)) (j .before .before .before .before .before .before .before .before .before .before .if1 .left) (j .before .before .before .before .before .before .before .if2 .left) (in-reverse (start (once j))) (j .append3 .kept .0) (second j) (c .if3 .taken)
 
 settle-requires : tie.Need-settle-requires
 settle-requires c κs =
     let j = c .before .before .before .before .before in
-    (settle-room (first (once j)) (j .before .before .before .before .before .before .before .before .before .before .if1 .left) (j .before .before .before .before .before .before .before .if2 .left) (in-turn (start (once j))) (j .append3 .kept .0) (second j) (c .before .if3 .left), j .before .before .before .before .get-row .ensures .1)
+    (settle-room (first (once j)) (j .before .before .before .before .before .before .before .before .before .before .if1 .left) (j .before .before .before .before .before .before .before .if2 .left) (in-reverse (start (once j))) (j .append3 .kept .0) (second j) (c .before .if3 .left), j .before .before .before .before .get-row .ensures .1)
 
 same-length-4 : tie.Need-same-length-4
 same-length-4 c = let j = c .before .before .before .before .before .before .before .before in c .before .before .settle .kept .0 ∙ j .append3 .kept .0 ∙ once j .append .kept .0
@@ -117,7 +117,7 @@ returns-4 : tie.Need-returns-4
 returns-4 c =
     let j = c .before .before .before .before .before .before .before .before in
     let settled = c .before .before .settle in
-    settled-adds (first (once j)) (j .before .before .before .before .before .before .before .before .before .before .if1 .left) (j .before .before .before .before .before .before .before .if2 .left) (in-turn (start (once j))) (j .append3 .kept .0) (second j) (c .before .before .before .before .if3 .left) _ (j .before .before .before .before .get-row .ensures .0) _ _ (settled .kept .0) (settled .ensures)
+    settled-adds (first (once j)) (j .before .before .before .before .before .before .before .before .before .before .if1 .left) (j .before .before .before .before .before .before .before .if2 .left) (in-reverse (start (once j))) (j .append3 .kept .0) (second j) (c .before .before .before .before .if3 .left) _ (j .before .before .before .before .get-row .ensures .0) _ _ (settled .kept .0) (settled .ensures)
 
 pub append-both-spec : {M : Type 1} → statement M
 append-both-spec =

@@ -1,12 +1,14 @@
 -- `pairs::append_with` meets its contract: of the rows of one term with all, some are there and the rest is to come.
 use mathlib.Core.Path.{_∙_}
+use mathlib.Core.List.{[], _++_}
 use Prim.Native.Nat.{_-_, _≤_}
 use native.Mathlib.Omega.{arith}
 use lib.ListN.{drop}
+use Rattle.modes.proofs.Sums.{by-front, by-nothing}
 use Rattle.record.specs.Layout.{termsIn}
 use Rattle.record.proofs.Reading.{none-left}
-use Rattle.pairs.specs.Products.{rowsWith}
-use Rattle.pairs.proofs.Pairing.{Progress, progress-starts, progress-goes, progress-over, progress-ends, with-next, with-none, pair-light}
+use Rattle.pairs.specs.Products.{pairRows, rowsWith}
+use Rattle.pairs.proofs.Pairing.{Progress, progress-starts, progress-goes, progress-over, progress-ends, pair-light}
 use borrow.Author.Needs.{needs}
 use Rattle.pairs.proofs.append_with.Statement.{statement}
 use Rattle.pairs.proofs.append_with.Tie as tie
@@ -41,7 +43,7 @@ returns c =
     let s = c .before .before .before .before .before .before .before .before .before .before .before in
     let v = c .before .before .before .before .before .before .before .before .loop in
     let step = c .before .before .before .before .append-pair in
-    progress-over _ _ (s .args .work .now) (s .args .s) (v .work) (v .at) (v .inv .1) _ _ (with-next (s .args .both) (s .args .sign .0) (s .args .t) (termsIn (s .args .b .now) (s .args .n)) (v .j) _ (c .before .before .before .before .before .before .read-term .ensures)) (step .last .1 .1 .0) (step .result) (step .kept .1 .1 .0) (step .ensures) (c .if1 .taken)
+    progress-over _ _ (s .args .work .now) (s .args .s) (v .work) (v .at) (v .inv .1) _ _ (by-front _++_ [] (pairRows (s .args .both) (s .args .sign .0) (s .args .t)) (c .before .before .before .before .before .before .read-term .ensures)) (step .last .1 .1 .0) (step .result) (step .kept .1 .1 .0) (step .ensures) (c .if1 .taken)
 
 add-j : tie.Need-add-j Inv-loop μ-loop
 add-j c = search needs
@@ -54,7 +56,7 @@ loop-again c =
     let s = c .before .before .before .before .before .before .before .before .before .before .before in
     let v = c .before .before .before .before .before .before .before .before .loop in
     let step = c .before .before .before .before .append-pair in
-    (omega (arith, c .before .before .before .before .before .before .before .loop-test), progress-goes _ _ (s .args .work .now) (s .args .s) (v .work) (v .at) (v .inv .1) _ _ (with-next (s .args .both) (s .args .sign .0) (s .args .t) (termsIn (s .args .b .now) (s .args .n)) (v .j) _ (c .before .before .before .before .before .before .read-term .ensures)) (step .last .1 .1 .0) (step .result) (step .kept .1 .1 .0) (step .ensures) (c .if1 .left))
+    (omega (arith, c .before .before .before .before .before .before .before .loop-test), progress-goes _ _ (s .args .work .now) (s .args .s) (v .work) (v .at) (v .inv .1) _ _ (by-front _++_ [] (pairRows (s .args .both) (s .args .sign .0) (s .args .t)) (c .before .before .before .before .before .before .read-term .ensures)) (step .last .1 .1 .0) (step .result) (step .kept .1 .1 .0) (step .ensures) (c .if1 .left))
 
 same-length-2 : tie.Need-same-length-2 Inv-loop μ-loop
 same-length-2 c = c .before .loop .inv .1 .len
@@ -63,7 +65,7 @@ returns-2 : tie.Need-returns-2 Inv-loop μ-loop
 returns-2 c =
     let s = c .before .before .before .before in
     let v = c .before .loop in
-    progress-ends _ _ (s .args .work .now) (s .args .s) (v .work) (v .at) (v .inv .1) (with-none (s .args .both) (s .args .sign .0) (s .args .t) _ (none-left (s .args .b .now) (s .args .n) (v .j) (omega arith)))
+    progress-ends _ _ (s .args .work .now) (s .args .s) (v .work) (v .at) (v .inv .1) (by-nothing _++_ [] (pairRows (s .args .both) (s .args .sign .0) (s .args .t)) (none-left (s .args .b .now) (s .args .n) (v .j) (omega arith)))
 
 pub append-with-spec : {M : Type 1} → statement M
 append-with-spec =
