@@ -16,6 +16,7 @@ use borrow.Author.Needs.{needs}
 use Rattle.branches.proofs.of_pair.Statement.{statement}
 use Rattle.branches.proofs.of_pair.Tie as tie
 
+-- the branches of a product by its words
 abbrev number : ProductHelper → ℕ
 number h = cond (notEmpty (h .«l_cre») (h .«l_ann») (h .«r_cre») (h .«r_ann»)) (2 ^ count 64 (branching (h .«l_cre») (h .«l_ann») (h .«r_cre») (h .«r_ann»))) 0
 
