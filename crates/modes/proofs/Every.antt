@@ -1,4 +1,4 @@
--- What holds of every entry of a list: of two lists in turn, of what a function makes of each, of the lists of all entries, and of what follows from it; and what holds between entries.
+-- What holds of every entry of a list: of two lists one after the other, of what a function makes of each, and of what follows from it; and what holds between entries.
 use mathlib.Core.Path.{_≡_, refl, ap₂}
 use mathlib.Core.List.{List, [], _∷_, _++_, map}
 use Rattle.modes.specs.Every.{Every, none, more, Pairwise, nothing, beside}
@@ -28,7 +28,8 @@ pub every-map : {A B : Type 0} {P : A → Type 0} {Q : B → Type 0} (f : A → 
 every-map f [] g none = none
 every-map f (x ∷ l) g (more h hs) = more (g x h) (every-map f l g hs)
 
-pub every-list : {A B : Type 0} {P : A → Type 0} {Q : B → Type 0} (f : A → List B) (l : List A) → ((x : A) → P x → Every Q (f x)) → Every P l → Every Q (listOf f l)
+pub every-list : {A B : Type 0} {P : A → Type 0} {Q : B → Type 0} (f : A → List B) (l : List A) → ((x : A) → P x → Every Q (f x)) → Every P l
+    → Every Q (listOf f l)
 unfolding sumBy
 every-list f [] g none = none
 every-list f (x ∷ l) g (more h hs) = every-append (f x) (listOf f l) (g x h) (every-list f l g hs)

@@ -55,8 +55,9 @@ module _ (bra ket : ℕ) (both minus : Bool) where
   unfolding sumOf
   all-elements ts us hts hus =
       sum-through (sum-respects (part bra ket)) (λ t. rowsWith both minus t us) ts
-      ∙ sum-same _ _ ts (every-implies ts (λ t ht. by-terms t ht) hts)
+      ∙ sum-same _ _ ts (every-implies ts by-terms hts)
       ∙ by-both-orders whole-numbers (other-respects both minus) (pairInSuccession bra ket) ts us
     where
-      by-terms : (t : Term) → Inside 64 t → element bra ket (rowsWith both minus t us) ≡ sumOf (λ u. pairInSuccession bra ket t u +ℤ other both minus (pairInSuccession bra ket u t)) us
-      by-terms t ht = sum-through (sum-respects (part bra ket)) (pairRows both minus t) us ∙ sum-same _ _ us (every-implies us (λ u hu. pair-elements t u ht hu) hus)
+      by-terms : (t : Term) → Inside 64 t
+          → element bra ket (rowsWith both minus t us) ≡ sumOf (λ u. pairInSuccession bra ket t u +ℤ other both minus (pairInSuccession bra ket u t)) us
+      by-terms t ht = sum-through (sum-respects (part bra ket)) (pairRows both minus t) us ∙ sum-same _ _ us (every-implies us (λ u. pair-elements t u ht) hus)

@@ -97,7 +97,8 @@ module _ (cre ann : ℕ) where
   product-weighs Lc La Rc Ra z = one-weighs (natAbs z) (rowsTimes Lc La Rc Ra z) (rows-differ Lc La Rc Ra z) (rows-size Lc La Rc Ra z)
 
   -- lists that weigh no more than c times the coefficients of the terms that they come from
-  listed-weighs : (c : ℕ) (f : Term → List Term) → ((t : Term) → keyWeight cre ann (f t) ≤ c * natAbs (t .coeff)) → (ts : List Term) → keyWeight cre ann (listOf f ts) ≤ c * weight ts
+  listed-weighs : (c : ℕ) (f : Term → List Term) → ((t : Term) → keyWeight cre ann (f t) ≤ c * natAbs (t .coeff)) → (ts : List Term)
+      → keyWeight cre ann (listOf f ts) ≤ c * weight ts
   unfolding sumBy keyWeight weight
   listed-weighs c f h [] = omega arith
   listed-weighs c f h (t ∷ ts) =
@@ -121,7 +122,9 @@ module _ (cre ann : ℕ) where
         at false = omega arith
 
     all-weighs : (ts us : List Term) → keyWeight cre ann (allRows both minus ts us) ≤ 2 * weight us * weight ts
-    all-weighs ts us = listed-weighs (2 * weight us) (λ t. rowsWith both minus t us) (λ t. rw (swap (weight us) (natAbs (t .coeff))) (listed-weighs (2 * natAbs (t .coeff)) (pairRows both minus t) (pair-weighs t) us)) ts
+    all-weighs ts us =
+        listed-weighs (2 * weight us) (λ t. rowsWith both minus t us)
+        (λ t. rw (swap (weight us) (natAbs (t .coeff))) (listed-weighs (2 * natAbs (t .coeff)) (pairRows both minus t) (pair-weighs t) us)) ts
       where
         swap : (v w : ℕ) → 2 * v * w ≡ 2 * w * v
         swap v w = omega (arith, mul-assoc 2 v w, mul-assoc 2 w v, mul-comm v w)

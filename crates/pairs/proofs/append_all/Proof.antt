@@ -45,7 +45,8 @@ returns c =
     let s = c .before .before .before .before .before .before .before .before .before .before .before .before in
     let v = c .before .before .before .before .before .before .before .before .loop in
     let step = c .before .before .before .before .append-with in
-    from-nothing _ (s .args .work .now) _ _ (progress-over _ _ (s .args .work .now) _ (v .work) (v .at) (v .inv .1) _ _ (by-front _++_ [] (λ (t : Term). rowsWith (s .args .both) (s .args .sign .0) t (termsIn (s .args .b .now) (s .args .nb))) (c .before .before .before .before .before .before .read-term .ensures)) (step .last .1 .1 .0) (step .result) (step .kept .1 .1 .0) (step .ensures) (c .if1 .taken))
+    let next = by-front _++_ [] (λ (t : Term). rowsWith (s .args .both) (s .args .sign .0) t (termsIn (s .args .b .now) (s .args .nb))) (c .before .before .before .before .before .before .read-term .ensures) in
+    from-nothing _ (s .args .work .now) _ _ (progress-over _ _ (s .args .work .now) _ (v .work) (v .at) (v .inv .1) _ _ next (step .last .1 .1 .0) (step .result) (step .kept .1 .1 .0) (step .ensures) (c .if1 .taken))
 
 add-i : tie.Need-add-i Inv-loop μ-loop
 add-i c = search needs
@@ -58,7 +59,10 @@ loop-again c =
     let s = c .before .before .before .before .before .before .before .before .before .before .before .before in
     let v = c .before .before .before .before .before .before .before .before .loop in
     let step = c .before .before .before .before .append-with in
-    (omega (arith, c .before .before .before .before .before .before .before .loop-test), progress-goes _ _ (s .args .work .now) _ (v .work) (v .at) (v .inv .1) _ _ (by-front _++_ [] (λ (t : Term). rowsWith (s .args .both) (s .args .sign .0) t (termsIn (s .args .b .now) (s .args .nb))) (c .before .before .before .before .before .before .read-term .ensures)) (step .last .1 .1 .0) (step .result) (step .kept .1 .1 .0) (step .ensures) (c .if1 .left))
+    let next = by-front _++_ [] (λ (t : Term). rowsWith (s .args .both) (s .args .sign .0) t (termsIn (s .args .b .now) (s .args .nb))) (c .before .before .before .before .before .before .read-term .ensures) in (
+      omega (arith, c .before .before .before .before .before .before .before .loop-test),
+      progress-goes _ _ (s .args .work .now) _ (v .work) (v .at) (v .inv .1) _ _ next (step .last .1 .1 .0) (step .result) (step .kept .1 .1 .0) (step .ensures) (c .if1 .left),
+    )
 
 same-length-2 : tie.Need-same-length-2 Inv-loop μ-loop
 same-length-2 c = c .before .loop .inv .1 .len

@@ -43,7 +43,8 @@ returns c =
     let s = c .before .before .before .before .before .before .before .before .before .before .before in
     let v = c .before .before .before .before .before .before .before .before .loop in
     let step = c .before .before .before .before .append-pair in
-    progress-over _ _ (s .args .work .now) (s .args .s) (v .work) (v .at) (v .inv .1) _ _ (by-front _++_ [] (pairRows (s .args .both) (s .args .sign .0) (s .args .t)) (c .before .before .before .before .before .before .read-term .ensures)) (step .last .1 .1 .0) (step .result) (step .kept .1 .1 .0) (step .ensures) (c .if1 .taken)
+    let next = by-front _++_ [] (pairRows (s .args .both) (s .args .sign .0) (s .args .t)) (c .before .before .before .before .before .before .read-term .ensures) in
+    progress-over _ _ (s .args .work .now) (s .args .s) (v .work) (v .at) (v .inv .1) _ _ next (step .last .1 .1 .0) (step .result) (step .kept .1 .1 .0) (step .ensures) (c .if1 .taken)
 
 add-j : tie.Need-add-j Inv-loop μ-loop
 add-j c = search needs
@@ -56,7 +57,10 @@ loop-again c =
     let s = c .before .before .before .before .before .before .before .before .before .before .before in
     let v = c .before .before .before .before .before .before .before .before .loop in
     let step = c .before .before .before .before .append-pair in
-    (omega (arith, c .before .before .before .before .before .before .before .loop-test), progress-goes _ _ (s .args .work .now) (s .args .s) (v .work) (v .at) (v .inv .1) _ _ (by-front _++_ [] (pairRows (s .args .both) (s .args .sign .0) (s .args .t)) (c .before .before .before .before .before .before .read-term .ensures)) (step .last .1 .1 .0) (step .result) (step .kept .1 .1 .0) (step .ensures) (c .if1 .left))
+    let next = by-front _++_ [] (pairRows (s .args .both) (s .args .sign .0) (s .args .t)) (c .before .before .before .before .before .before .read-term .ensures) in (
+      omega (arith, c .before .before .before .before .before .before .before .loop-test),
+      progress-goes _ _ (s .args .work .now) (s .args .s) (v .work) (v .at) (v .inv .1) _ _ next (step .last .1 .1 .0) (step .result) (step .kept .1 .1 .0) (step .ensures) (c .if1 .left),
+    )
 
 same-length-2 : tie.Need-same-length-2 Inv-loop μ-loop
 same-length-2 c = c .before .loop .inv .1 .len
