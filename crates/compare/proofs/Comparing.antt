@@ -6,7 +6,7 @@ use Prim.Native.Nat.{ℕ}
 use borrow.Author.Tests.{ne-eqb}
 use Rattle.record.specs.Layout.{termsOf}
 use Rattle.record.proofs.Accepted.{accepted-canonical}
-use Rattle.lincomb.specs.Normal.{dropZeros}
+use Rattle.normal.specs.Normal.{dropZeros}
 use Rattle.lincomb.specs.Results.{openedOf}
 use Rattle.lincomb.specs.Merging.{Sound, onward}
 use Rattle.lincomb.specs.declared.Opened.{Opened}

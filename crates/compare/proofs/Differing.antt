@@ -17,11 +17,13 @@ use Rattle.record.specs.Coefficients.{coeffOf}
 use Rattle.record.proofs.Coefficients.{earlier-words, own-coeff}
 use Rattle.record.proofs.Accepted.{abs-zero}
 use Rattle.lincomb.specs.Normal.{dropZeros}
+use Rattle.normal.specs.Normal.{dropZeros}
+use Rattle.normal.proofs.Totals.{coeff-drop}
+use Rattle.normal.proofs.Normal.{ascending-drop, nonzero-drop}
 use Rattle.lincomb.specs.Sums.{turn}
 use Rattle.lincomb.specs.Merging.{merge}
-use Rattle.lincomb.proofs.Totals.{coeff-drop, coeff-merge, coeff-turn}
-use Rattle.lincomb.proofs.Normal.{ascending-drop, ascending-turn, nonzero-drop}
-use Rattle.lincomb.proofs.Merging.{ascending-merge}
+use Rattle.lincomb.proofs.Totals.{coeff-merge, coeff-turn}
+use Rattle.lincomb.proofs.Merging.{ascending-turn, ascending-merge}
 use Rattle.compare.specs.Comparison.{differs, those, differing}
 use Rattle.compare.proofs.Naming.{Some, Held, Lists}
 

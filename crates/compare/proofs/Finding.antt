@@ -7,7 +7,7 @@ use lib.IntN.{natAbs}
 use borrow.Author.Tests.{eq-eqb, ne-eqb}
 use Rattle.modes.specs.declared.Term.{Term}
 use Rattle.modes.specs.Answers.{none}
-use Rattle.lincomb.specs.Normal.{dropZeros}
+use Rattle.normal.specs.Normal.{dropZeros}
 use Rattle.compare.specs.Comparison.{ahead, foremost, named}
 use Rattle.compare.specs.Finding.{withTerm}
 use Rattle.compare.specs.declared.Compared.{Compared}

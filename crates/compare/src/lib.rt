@@ -4,7 +4,7 @@ use modes::Sign;
 use modes::Term;
 ghost use mathlib.Core.Path.{_≡_};
 ghost use mathlib.Core.Bool.{true};
-ghost use Rattle.lincomb.specs.Normal.{dropZeros};
+ghost use Rattle.normal.specs.Normal.{dropZeros};
 ghost use Rattle.lincomb.specs.Merging.{Sound, onward};
 ghost use Rattle.compare.specs.Comparison.{ahead, named, refusedComparison, comparedOf};
 ghost use Rattle.compare.specs.Finding.{withTerm};

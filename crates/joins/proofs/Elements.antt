@@ -4,7 +4,7 @@ use mathlib.Core.List.{List}
 use Prim.Native.Nat.{ℕ}
 use Rattle.lent.specs.Rows.{rowsAt}
 use Rattle.products.specs.Operators.{element}
-use Rattle.lincomb.proofs.Normal.{coefficients-decide}
+use Rattle.normal.proofs.Normal.{coefficients-decide}
 use Rattle.joins.specs.Collected.{Collected}
 
 pub collected-elements : (n : ℕ) (l m : List ℕ) (k : ℕ) → Collected n l m k → (bra ket : ℕ) → element bra ket (rowsAt m 0 k) ≡ element bra ket (rowsAt l 0 n)

@@ -1,13 +1,12 @@
 -- Rows read one by one, in order: those that are done, the one in hand, and what both make of the rows read.
 use mathlib.Core.Path.{_≡_, refl, sym, ap, _∙_, subst}
-use mathlib.Core.Bool.{true, cond, _&&_}
+use mathlib.Core.Bool.{true}
 use mathlib.Core.List.{List, [], _∷_, _++_}
 use mathlib.Core.Logic.{_⊎_, inl, inr}
 use Prim.Native.Nat.{ℕ, _+_, _≤_, _<_}
 use native.Mathlib.Omega.{arith}
 use lib.IntN.{ℤ, pos, natAbs, _+ℤ_, +ℤ-idl, +ℤ-idr, +ℤ-assoc}
 use borrow.Author.Tests.{eq-eqb}
-use lib.Dec.{eqb}
 use mir.Syntax.{w64}
 use mir.Val.{SFits}
 use Rattle.modes.specs.Sums.{sumOf}
@@ -16,14 +15,15 @@ use Rattle.modes.proofs.Sums.{sum-last}
 use Rattle.modes.specs.Every.{Every, none}
 use Rattle.modes.proofs.Every.{every-last}
 use Rattle.lent.specs.Rows.{Fit}
-use Rattle.lent.proofs.RowLaws.{term-of}
 use Rattle.rows.specs.Order.{key}
 use Rattle.modes.proofs.Digits.{lt-or-ge}
 use Rattle.rows.proofs.Keys.{key-words, key-less}
+use Rattle.products.specs.Product.{Other}
 use Rattle.record.specs.Terms.{before, Ascending, empty}
 use Rattle.record.specs.Canonical.{Nonzero}
 use Rattle.record.specs.Coefficients.{coeffIn, coeffOf}
-use Rattle.lincomb.proofs.Totals.{where-add, where-zero}
+use Rattle.normal.specs.Normal.{join}
+use Rattle.normal.proofs.Totals.{alike-words, coeff-additive}
 use Rattle.record.proofs.Order.{lower, level, ordered}
 use Rattle.joins.specs.KeyWeights.{keyWeight}
 use Rattle.joins.specs.Steps.{Ended, dropped, stored}
@@ -46,19 +46,8 @@ pub record InHand (ts : List Term) (x : Term) (us : List Term) : Type 0 where
   pub own : Fit x
   pub coeff : (c a : ℕ) → coeffOf c a ts +ℤ coeffIn c a x ≡ coeffOf c a us
 
--- two terms that have the same words, as one
-abbrev pub joint : Term → Term → Term
-joint x y = record { cre = x .cre; ann = x .ann; coeff = x .coeff +ℤ y .coeff }
-
 own-words : (t x : Term) → t .ann ≡ x .ann → t .cre ≡ x .cre → coeffIn (x .cre) (x .ann) t ≡ t .coeff
 own-words t x p q = rw (eq-eqb (t .ann) (x .ann) p, eq-eqb (t .cre) (x .cre) q)
-
-joint-coeff : (c a : ℕ) (x y : Term) → y .ann ≡ x .ann → y .cre ≡ x .cre → coeffIn c a (joint x y) ≡ coeffIn c a x +ℤ coeffIn c a y
-joint-coeff c a x y p q =
-    where-add (eqb (x .ann) a && eqb (x .cre) c) (x .coeff) (y .coeff) ∙ ap (λ (t : Term). coeffIn c a x +ℤ coeffIn c a t) (term-of (sym p) (sym q) refl)
-
-zero-coeff : (c a : ℕ) (x : Term) → x .coeff ≡ pos 0 → coeffIn c a x ≡ pos 0
-zero-coeff c a x e = ap (λ (z : ℤ). cond (eqb (x .ann) a && eqb (x .cre) c) z (pos 0)) e ∙ where-zero (eqb (x .ann) a && eqb (x .cre) c)
 
 pub first-in-hand : (x : Term) → Fit x → InHand [] x (x ∷ [])
 unfolding sumOf
@@ -72,7 +61,7 @@ first-in-hand x f = record {
 }
 
 -- a row of other words that is not below x is above it
-pub comes-after : (x y : Term) → Fit x → Fit y → (y .ann ≡ x .ann → y .cre ≡ x .cre → ⊥) → key x ≤ key y → before x y ≡ true
+pub comes-after : (x y : Term) → Fit x → Fit y → Other y x → key x ≤ key y → before x y ≡ true
 comes-after x y f g n h = go (lt-or-ge (key x) (key y))
   where
     go : (key x < key y) ⊎ (key y ≤ key x) → before x y ≡ true
@@ -84,7 +73,7 @@ comes-after x y f g n h = go (lt-or-ge (key x) (key y))
     go (inr l) =
         let e : key x ≡ key y = omega arith in
         let w = key-words (x .ann) (x .cre) (y .ann) (y .cre) (f .cre) (g .cre) e in
-        absurd (n (sym (w .0)) (sym (w .1)))
+        absurd (n (sym (w .1)) (sym (w .0)))
 
 module _ (ts us : List Term) (x : Term) (s : InHand ts x us) where
   pub closed-done : (vs : List Term) → Ended ts x vs → Done vs us
@@ -92,7 +81,7 @@ module _ (ts us : List Term) (x : Term) (s : InHand ts x us) where
     ascending = s .ascending;
     nonzero = s .nonzero;
     fit = s .fit;
-    coeff = λ c a. sym (+ℤ-idr (coeffOf c a ts)) ∙ ap (λ (w : ℤ). coeffOf c a ts +ℤ w) (sym (zero-coeff c a x z)) ∙ s .coeff c a;
+    coeff = λ c a. sym (+ℤ-idr (coeffOf c a ts)) ∙ ap (λ (w : ℤ). coeffOf c a ts +ℤ w) (sym (coeff-additive c a .none x (ap natAbs z))) ∙ s .coeff c a;
   }
   closed-done vs (stored z e) = subst (λ (w : List Term). Done w us) (sym e) record {
     ascending = ascending-end ts x (s .ascending) (s .under);
@@ -117,14 +106,15 @@ module _ (ts us : List Term) (x : Term) (s : InHand ts x us) where
   }
 
   -- the next row has the same words
-  pub joined-in-hand : (y : Term) → y .ann ≡ x .ann → y .cre ≡ x .cre → SFits w64 (x .coeff +ℤ y .coeff) → InHand ts (joint x y) (us ++ (y ∷ []))
+  pub joined-in-hand : (y : Term) → y .ann ≡ x .ann → y .cre ≡ x .cre → SFits w64 (x .coeff +ℤ y .coeff) → InHand ts (join x y) (us ++ (y ∷ []))
+  unfolding join
   joined-in-hand y p q f = record {
     ascending = s .ascending;
-    under = under-same ts x (joint x y) refl refl (s .under);
+    under = under-same ts x (join x y) (sym p) (sym q) (s .under);
     nonzero = s .nonzero;
     fit = s .fit;
-    own = record { ann = s .own .ann; cre = s .own .cre; coeff = f };
-    coeff = λ c a. ap (λ (z : ℤ). coeffOf c a ts +ℤ z) (joint-coeff c a x y p q)
+    own = record { ann = rw p (s .own .ann); cre = rw q (s .own .cre); coeff = f };
+    coeff = λ c a. ap (λ (z : ℤ). coeffOf c a ts +ℤ z) (coeff-additive c a .like x y (alike-words x y (sym p) (sym q)))
         ∙ sym (+ℤ-assoc (coeffOf c a ts) (coeffIn c a x) (coeffIn c a y))
         ∙ ap (λ (z : ℤ). z +ℤ coeffIn c a y) (s .coeff c a) ∙ sym (sum-last (coeffIn c a) us y);
   }

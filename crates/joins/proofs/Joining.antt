@@ -1,5 +1,5 @@
 -- The walk over rows in order: at each row what is done, what is in hand, and that the rows ahead are still unread.
-use mathlib.Core.Path.{_≡_, refl, sym, ap, ap₂, _∙_, subst}
+use mathlib.Core.Path.{_≡_, refl, sym, ap, _∙_, subst}
 use mathlib.Core.List.{List, [], _∷_, _++_}
 use Prim.Native.Nat.{ℕ, _+_, _*_, _≤_, _<_, _^_}
 use native.Mathlib.Nat.{zero-add}
@@ -12,13 +12,15 @@ use Rattle.lent.specs.Rows.{Fit, rowAt, rowsAt}
 use Rattle.lent.proofs.RowLaws.{rows-more}
 use Rattle.integers.proofs.SignedNumbers.{sum-fits}
 use Rattle.rows.specs.Order.{key, keyOf}
+use Rattle.products.specs.Product.{Other}
 use Rattle.record.specs.Terms.{empty}
 use Rattle.record.specs.Coefficients.{coeffOf}
+use Rattle.normal.specs.Normal.{join}
 use Rattle.joins.specs.KeyWeights.{keyWeight, Light}
 use Rattle.joins.specs.Collected.{Collected}
 use Rattle.joins.specs.Steps.{InOrder, Closed, Met, joined, opened}
 use Rattle.joins.proofs.KeyWeights.{weight-up}
-use Rattle.joins.proofs.InHand.{InHand, joint, first-in-hand, next-in-hand, joined-in-hand, closed-done, both-weigh, comes-after}
+use Rattle.joins.proofs.InHand.{InHand, first-in-hand, next-in-hand, joined-in-hand, closed-done, both-weigh, comes-after}
 use Rattle.joins.proofs.Closing.{same-from, same-row}
 
 -- of the n rows of l, i are read: p rows of m are done, and x is in hand
@@ -68,18 +70,19 @@ module _ (n i : ℕ) (l m : List ℕ) (p : ℕ) (x : Term) (s : Joining n i l m 
     next-up : (z : Term) → key z ≡ key (rowAt m (24 * i)) → i + 1 < n → key z ≤ key (rowAt l (24 * (i + 1)))
     next-up z e b = rw (e ∙ ap key met-row) (order i b)
 
-    after-joined : (rowAt m (24 * i)) .ann ≡ x .ann → (rowAt m (24 * i)) .cre ≡ x .cre → Joining n (i + 1) l m p (joint x (rowAt m (24 * i)))
+    after-joined : (rowAt m (24 * i)) .ann ≡ x .ann → (rowAt m (24 * i)) .cre ≡ x .cre → Joining n (i + 1) l m p (join x (rowAt m (24 * i)))
+    unfolding join
     after-joined e f = record {
       under = omega (arith, s .under);
       to = omega arith;
       len = s .len;
       ahead = same-from l m (24 * i) (24 * (i + 1)) (omega arith) (s .ahead);
-      hand = subst (InHand (rowsAt m 0 p) (joint x (rowAt m (24 * i)))) read
+      hand = subst (InHand (rowsAt m 0 p) (join x (rowAt m (24 * i)))) read
           (joined-in-hand (rowsAt m 0 p) (rowsAt l 0 i) x (s .hand) (rowAt m (24 * i)) e f (sum-fits (x .coeff) ((rowAt m (24 * i)) .coeff) (meet-light light e f)));
-      next = next-up (joint x (rowAt m (24 * i))) (ap₂ keyOf (sym e) (sym f));
+      next = next-up (join x (rowAt m (24 * i))) refl;
     }
 
-    after-closed : (m2 : List ℕ) (q : ℕ) → ((rowAt m (24 * i)) .ann ≡ x .ann → (rowAt m (24 * i)) .cre ≡ x .cre → ⊥) → Closed p x m m2 q → Fit (rowAt m (24 * i))
+    after-closed : (m2 : List ℕ) (q : ℕ) → Other (rowAt m (24 * i)) x → Closed p x m m2 q → Fit (rowAt m (24 * i))
         → Joining n (i + 1) l m2 q (rowAt m (24 * i))
     after-closed m2 q other c f = record {
       under = omega (arith, s .under, c .count);

@@ -2,12 +2,14 @@
 use mathlib.Core.Path.{_≡_}
 use mathlib.Core.List.{List, [], _∷_, _++_}
 use Prim.Native.Nat.{ℕ, _+_, _*_, _≤_, _<_}
-use lib.IntN.{pos, _+ℤ_}
+use lib.IntN.{pos}
 use lib.ListN.{length, drop}
 use Rattle.modes.specs.declared.Term.{Term}
 use Rattle.lent.specs.Rows.{Fit, rowAt, rowsAt}
 use Rattle.rows.specs.Order.{key}
+use Rattle.products.specs.Product.{Other}
 use Rattle.record.specs.Canonical.{Nonzero}
+use Rattle.normal.specs.Normal.{join}
 
 -- no row is above the next, so like rows stand side by side
 abbrev pub InOrder : List ℕ → ℕ → Type 0
@@ -27,6 +29,5 @@ pub record Closed (p : ℕ) (x : Term) (l m : List ℕ) (r : ℕ) : Type 0 where
 
 -- the row y meets the row x in hand, and z is in hand then
 pub data Met (p : ℕ) (x y : Term) (l m : List ℕ) (q : ℕ) (z : Term) : Type 0 where
-  joined : y .ann ≡ x .ann → y .cre ≡ x .cre → m ≡ l → q ≡ p → z ≡ record { cre = x .cre; ann = x .ann; coeff = x .coeff +ℤ y .coeff }
-      → Met p x y l m q z
-  opened : (y .ann ≡ x .ann → y .cre ≡ x .cre → ⊥) → Closed p x l m q → z ≡ y → Fit y → Met p x y l m q z
+  joined : y .ann ≡ x .ann → y .cre ≡ x .cre → m ≡ l → q ≡ p → z ≡ join x y → Met p x y l m q z
+  opened : Other y x → Closed p x l m q → z ≡ y → Fit y → Met p x y l m q z

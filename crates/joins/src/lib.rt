@@ -39,12 +39,7 @@ fn meet(work: &mut [u8], i: usize, o: Open) -> Open
     let next = lent::get_row(work, 24 * i);
     if next.ann == row.ann {
         if next.cre == row.cre {
-            let coeff = integers::sum(row.coeff, next.coeff);
-            let joined = Term {
-                cre: row.cre,
-                ann: row.ann,
-                coeff,
-            };
+            let joined = normal::joined(row, next);
             return Open {
                 place: o.place,
                 row: joined,

@@ -12,6 +12,7 @@ use Rattle.modes.specs.Refusals.{orElse}
 use Rattle.modes.specs.Spaces.{inside}
 use Rattle.record.specs.Refusals.{termRefusal, termsRefusal, refusalOf}
 use Rattle.lincomb.specs.Normal.{join, insert, collect, dropZeros}
+use Rattle.normal.specs.Normal.{join, insert, collect, dropZeros}
 use Rattle.lincomb.specs.Results.{pairRefusal, resultRefusal, recordOutput}
 use Rattle.lincomb.specs.Sums.{added, subtracted}
 

@@ -1,5 +1,4 @@
 pub mod Totals
-pub mod Normal
 pub mod Merging
 pub mod Tallying
 pub mod Writing

@@ -10,6 +10,7 @@ use lib.ListN.{drop}
 use Rattle.modes.specs.declared.Term.{Term}
 use Rattle.modes.proofs.Sums.{sum-append}
 use Rattle.modes.specs.Every.{Every, none, more}
+use Rattle.modes.proofs.Every.{every-map}
 use Rattle.record.specs.Terms.{before, Above, Ascending, empty, above}
 use Rattle.record.specs.Layout.{termsIn}
 use Rattle.record.specs.Reading.{At}
@@ -18,11 +19,18 @@ use Rattle.products.proofs.Signs.{abs-signed}
 use Rattle.record.specs.Coefficients.{coeffIn}
 use Rattle.record.proofs.Reading.{none-left}
 use Rattle.record.proofs.Weights.{weight-at}
-use Rattle.lincomb.specs.Normal.{join, dropZeros, normal}
+use Rattle.normal.specs.Normal.{join, dropZeros, normal}
+use Rattle.normal.proofs.Totals.{coeff-drop}
+use Rattle.normal.proofs.Normal.{Joins, above-joins, ascending-drop, nonzero-drop, normal-is}
 use Rattle.lincomb.specs.Sums.{turn}
 use Rattle.lincomb.specs.Merging.{merge, Sound, onward, taken, Pulled}
-use Rattle.lincomb.proofs.Totals.{coeff-drop, coeff-merge}
-use Rattle.lincomb.proofs.Normal.{Joins, above-joins, ascending-drop, nonzero-drop, normal-is}
+use Rattle.lincomb.proofs.Totals.{coeff-merge}
+
+-- signs change no order
+pub ascending-turn : (minus : Bool) (ts : List Term) → Ascending ts → Ascending (map (turn minus) ts)
+unfolding before
+ascending-turn minus [] empty = empty
+ascending-turn minus (t ∷ ts) (above a s) = above (every-map (turn minus) ts (λ u h. h) a) (ascending-turn minus ts s)
 
 pub every-merge : {P : Term → Type 0} → Joins P → (ts us : List Term) → Every P ts → Every P us → Every P (merge ts us)
 unfolding merge

@@ -19,16 +19,17 @@ use Rattle.record.specs.Layout.{encode, modesOf, termsOf}
 use Rattle.record.specs.Refusals.{refusalOf}
 use Rattle.record.specs.Canonical.{Inside, Canonical}
 use Rattle.record.proofs.Accepted.{accepted-canonical}
-use Rattle.lincomb.specs.Normal.{join, dropZeros, normal}
+use Rattle.normal.specs.Normal.{dropZeros, normal}
+use Rattle.normal.proofs.Totals.{element-normal}
+use Rattle.normal.proofs.Normal.{inside-joins, every-normal, normal-ascending, normal-nonzero}
 use Rattle.lincomb.specs.Results.{pairRefusal, resultRefusal, openedOf}
 use Rattle.lincomb.specs.Sums.{turn, sumTerms, combined, added, subtracted}
 use Rattle.lincomb.specs.Merging.{Sound, onward}
 use Rattle.lincomb.specs.Tallies.{Tallied}
 use Rattle.lincomb.specs.declared.Opened.{Opened}
 use Rattle.lincomb.specs.declared.Tally.{Tally}
-use Rattle.lincomb.proofs.Totals.{element-normal, element-turn}
-use Rattle.lincomb.proofs.Normal.{every-normal, ascending-turn, normal-ascending, normal-nonzero}
-use Rattle.lincomb.proofs.Merging.{merge-normal}
+use Rattle.lincomb.proofs.Totals.{element-turn}
+use Rattle.lincomb.proofs.Merging.{ascending-turn, merge-normal}
 use Rattle.lincomb.proofs.Results.{Opens, opens, shuts, sound, first-fine, second-fine, same-modes, Deliverable, deliverable, verdict-same, refused-earlier, refused-late, delivers, result-earlier, result-accepted, result-modes, result-terms}
 
 -- ---- each way through the call
@@ -81,10 +82,6 @@ module _ (minus : Bool) (a b out : List ℕ) (p : Opened) (ep : p ≡ openedOf a
 
 inside-turn : (m : ℕ) (minus : Bool) (t : Term) → Inside m t → Inside m (turn minus t)
 inside-turn m minus t h = record { ann = h .ann; cre = h .cre }
-
-pub inside-joins : (m : ℕ) (t u : Term) → Inside m t → Inside m u → Inside m (join t u)
-unfolding join
-inside-joins m t u h k = record { ann = k .ann; cre = k .cre }
 
 -- any list of terms of two accepted records of one mode count, with any signs, has a normal form within these modes
 within-sum : (m : ℕ) (minus : Bool) (ts us : List Term) → Every (Inside m) ts → Every (Inside m) us → Every (Inside m) (normal (ts ++ map (turn minus) us))

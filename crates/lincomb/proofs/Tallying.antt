@@ -1,43 +1,20 @@
 -- Terms counted and weighed one by one, wherever they come from; those with a zero coefficient are not counted.
-use mathlib.Core.Path.{_≡_, refl, ap, _∙_}
-use mathlib.Core.Bool.{Bool, true, false, cond}
+use mathlib.Core.Path.{_≡_, ap, _∙_}
+use mathlib.Core.Bool.{cond}
 use mathlib.Core.List.{List, [], _∷_}
 use Prim.Native.Nat.{ℕ, _+_}
 use native.Mathlib.Omega.{arith}
 use lib.Dec.{eqb}
 use lib.IntN.{natAbs}
 use lib.ListN.{length}
-use borrow.Author.Tests.{eqb-true}
 use Rattle.modes.specs.declared.Term.{Term}
 use Rattle.record.specs.Terms.{weight}
 use Rattle.record.specs.Weights.{heavierBy}
 use Rattle.record.proofs.Weights.{Weighs, weighs-start, weighs-more}
 use Rattle.record.proofs.Checking.{weight-front, weight-none}
-use Rattle.lincomb.specs.Normal.{dropZeros}
+use Rattle.normal.specs.Normal.{dropZeros}
+use Rattle.normal.proofs.Drops.{drop-length, drop-weight, drop-none}
 use Rattle.lincomb.specs.Tallies.{Tallied}
-
-drop-length : (t : Term) (ts : List Term) → length (dropZeros (t ∷ ts)) ≡ cond (eqb (natAbs (t .coeff)) 0) 0 1 + length (dropZeros ts)
-unfolding dropZeros
-drop-length t ts = go (eqb (natAbs (t .coeff)) 0)
-  where
-    go : (b : Bool) → length (cond b (dropZeros ts) (t ∷ dropZeros ts)) ≡ cond b 0 1 + length (dropZeros ts)
-    go true = omega arith
-    go false = omega arith
-
--- a term of size 0 weighs nothing
-pub drop-weight : (ts : List Term) → weight (dropZeros ts) ≡ weight ts
-unfolding dropZeros weight
-drop-weight [] = refl
-drop-weight (t ∷ ts) = go (drop-weight ts) (eqb (natAbs (t .coeff)) 0) refl
-  where
-    go : weight (dropZeros ts) ≡ weight ts → (b : Bool) → eqb (natAbs (t .coeff)) 0 ≡ b
-        → weight (cond b (dropZeros ts) (t ∷ dropZeros ts)) ≡ natAbs (t .coeff) + weight ts
-    go ih true e = let z : natAbs (t .coeff) ≡ 0 = eqb-true _ _ e in omega arith
-    go ih false e = omega arith
-
-pub drop-none : (ts : List Term) → ts ≡ [] → dropZeros ts ≡ []
-unfolding dropZeros
-drop-none ts e = rw e
 
 -- a walk over the terms of whole, with left to come: n counted so far, of weight w
 pub record Tallying (whole left : List Term) (n w : ℕ) : Type 0 where

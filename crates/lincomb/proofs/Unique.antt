@@ -31,9 +31,6 @@ one-opening a b r s = one
 pub one-verdict : (room n w : ℕ) (r s : Refusal) → r ≡ resultRefusal room n w → s ≡ resultRefusal room n w → r ≡ s
 one-verdict room n w r s = one
 
-pub one-joined : (t u r s : Term) → r ≡ join t u → s ≡ join t u → r ≡ s
-one-joined t u r s = one
-
 pub one-turned : (minus : Bool) (t r s : Term) → r ≡ turn minus t → s ≡ turn minus t → r ≡ s
 one-turned minus t r s = one
 

@@ -5,21 +5,12 @@ use Prim.Native.Nat.{ℕ, _+_, _*_, _≤_, _<_}
 use native.Mathlib.Omega.{arith}
 use lib.IntN.{natAbs}
 use lib.ListN.{length, length-append}
-use borrow.Author.Tests.{eq-eqb, ne-eqb}
 use Rattle.modes.specs.declared.Term.{Term}
 use Rattle.lent.specs.Bytes.{put}
 use Rattle.record.specs.Layout.{columns, putTerm}
 use Rattle.record.proofs.Columns.{spread, spread-none, spread-more, length-spread, spread-all}
-use Rattle.lincomb.specs.Normal.{dropZeros}
-use Rattle.lincomb.proofs.Tallying.{drop-none}
-
-drop-keeps : (t : Term) (ts : List Term) → (natAbs (t .coeff) ≡ 0 → ⊥) → dropZeros (t ∷ ts) ≡ t ∷ dropZeros ts
-unfolding dropZeros
-drop-keeps t ts h = rw (ne-eqb _ _ h)
-
-drop-leaves : (t : Term) (ts : List Term) → natAbs (t .coeff) ≡ 0 → dropZeros (t ∷ ts) ≡ dropZeros ts
-unfolding dropZeros
-drop-leaves t ts h = rw (eq-eqb _ _ h)
+use Rattle.normal.specs.Normal.{dropZeros}
+use Rattle.normal.proofs.Drops.{drop-none, drop-keeps, drop-leaves}
 
 -- a walk over the terms of whole, with left to come: done are the k terms that stand in out, of n in all
 pub record Writing (l : List ℕ) (n : ℕ) (whole left : List Term) (k : ℕ) (out : List ℕ) : Type 0 where

@@ -1,4 +1,3 @@
-pub mod Normal
 pub mod Results
 pub mod Sums
 pub mod Merging

@@ -7,7 +7,7 @@ use lib.ListN.{length, drop}
 use Rattle.modes.specs.declared.Term.{Term}
 use Rattle.record.specs.Terms.{before, weight}
 use Rattle.record.specs.Layout.{termsIn}
-use Rattle.lincomb.specs.Normal.{join}
+use Rattle.normal.specs.Normal.{join}
 use Rattle.lincomb.specs.Sums.{turn}
 use Rattle.lincomb.specs.declared.Step.{Step}
 

@@ -6,7 +6,7 @@ use Rattle.modes.specs.declared.Term.{Term}
 use Rattle.lent.specs.Outputs.{Output}
 use Rattle.products.specs.Operators.{signed}
 use Rattle.record.specs.Layout.{modesOf, termsOf}
-use Rattle.lincomb.specs.Normal.{normal}
+use Rattle.normal.specs.Normal.{normal}
 use Rattle.lincomb.specs.Results.{pairRefusal, resultOf}
 
 -- the term, or its negative where the sign is minus

@@ -12,7 +12,7 @@ ghost use lib.ListN.{length};
 ghost use Rattle.lent.specs.Bytes.{put};
 ghost use Rattle.lent.specs.Outputs.{Gives, filledOutput};
 ghost use Rattle.record.specs.Layout.{columns, encode};
-ghost use Rattle.lincomb.specs.Normal.{join, dropZeros};
+ghost use Rattle.normal.specs.Normal.{dropZeros};
 ghost use Rattle.lincomb.specs.Results.{shut, openedOf, resultRefusal};
 ghost use Rattle.lincomb.specs.Sums.{turn, combined, added, subtracted};
 ghost use Rattle.lincomb.specs.Merging.{Sound, onward, Pulled};
@@ -99,19 +99,6 @@ pub fn verdict(room: usize, n: usize, w: u64) -> Refusal
     Refusal::NONE
 }
 
-// Two like terms in one.
-pub fn joined(t: Term, u: Term) -> Term
-    requires { ⌜ natAbs (t .coeff) + natAbs (u .coeff) < 2 ^ 63 ⌝ }
-    ensures { λ r. ⌜ r ≡ join t u ⌝ }
-{
-    let coeff = integers::sum(t.coeff, u.coeff);
-    Term {
-        cre: u.cre,
-        ann: u.ann,
-        coeff,
-    }
-}
-
 // The term, or its negative where the sign is minus.
 pub fn turned(sign: Sign, t: Term) -> Term
     requires { ⌜ natAbs (t .coeff) < 2 ^ 63 ⌝ }
@@ -166,7 +153,7 @@ pub fn next(sign: Sign, a: &[u8], na: usize, i: usize, b: &[u8], nb: usize, j: u
             right: j + 1,
         };
     }
-    let both = joined(t, u);
+    let both = normal::joined(t, u);
     Step {
         term: both,
         left: i + 1,

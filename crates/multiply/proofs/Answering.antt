@@ -19,9 +19,10 @@ use Rattle.record.specs.Coefficients.{coeffOf}
 use Rattle.modes.specs.Refusals.{orElse}
 use Rattle.modes.proofs.Refusals.{or-first, or-second}
 use Rattle.lincomb.specs.Normal.{normal}
+use Rattle.normal.specs.Normal.{normal}
+use Rattle.normal.proofs.Normal.{normal-is}
 use Rattle.lincomb.specs.Results.{pairRefusal, resultOf, openedOf}
 use Rattle.lincomb.specs.declared.Opened.{Opened}
-use Rattle.lincomb.proofs.Normal.{normal-is}
 use Rattle.lincomb.proofs.Results.{Opens, opens, shuts, sound, refused-earlier}
 use Rattle.joins.specs.Collected.{Collected}
 use Rattle.joins.specs.KeyWeights.{Light}

@@ -24,10 +24,10 @@ use Rattle.record.specs.Canonical.{Inside, Canonical}
 use Rattle.modes.proofs.Refusals.{neither}
 use Rattle.record.proofs.Accepted.{accepted-canonical}
 use Rattle.lincomb.specs.Normal.{normal}
+use Rattle.normal.specs.Normal.{normal}
+use Rattle.normal.proofs.Totals.{element-normal}
+use Rattle.normal.proofs.Normal.{inside-joins, every-normal, normal-ascending, normal-nonzero}
 use Rattle.lincomb.specs.Results.{pairRefusal}
-use Rattle.lincomb.proofs.Totals.{element-normal}
-use Rattle.lincomb.proofs.Normal.{every-normal, normal-ascending, normal-nonzero}
-use Rattle.lincomb.proofs.Sums.{inside-joins}
 use Rattle.lincomb.proofs.Results.{first-fine, second-fine, same-modes, result-earlier, result-accepted, result-modes, result-terms}
 use Rattle.pairs.specs.Products.{pairRows, allRows, allBranches, inSuccession}
 use Rattle.multiply.specs.Answers.{weightRefusal, workRefusal, earlyRefusal, productAnswer, productOf, commutatorOf, anticommutatorOf}

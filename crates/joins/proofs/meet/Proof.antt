@@ -13,23 +13,25 @@ mul-get-row c = search needs
 get-row-requires : tie.Need-get-row-requires
 get-row-requires c κs = search needs
 
-sum-requires : tie.Need-sum-requires
-sum-requires c κs =
-    let s = c .before .before .before .before .before .before .before .before .before .before .before .before in
-    let y = c .before .before .before .before .before .before .before .before .get-row in
-    meet-sum (s .args .o .row) (y .result) (rowAt (s .args .work .now) (24 * s .args .i)) (s .pre .2) (y .ensures .1) (y .ensures .0) (s .pre .3)
-    (c .before .before .before .before .before .if1 .taken) (c .before .before .if2 .taken)
+joined-requires : tie.Need-joined-requires
+joined-requires c κs =
+    let at-if1 = c .before .before .before in
+    let at-get-row = at-if1 .before .before .before in
+    let s = at-get-row .before .before .before .before in
+    let y = at-get-row .get-row in
+    meet-sum (s .args .o .row) (y .result) (rowAt (s .args .work .now) (24 * s .args .i)) (y .ensures .0) (s .pre .3) (at-if1 .if1 .taken) (c .if2 .taken)
 
 same-length : tie.Need-same-length
 same-length c = search needs
 
 returns : tie.Need-returns
 returns c =
-    let s = c .before .before .before .before .before .before .before .before .before .before .before .before .before in
-    let y = c .before .before .before .before .before .before .before .before .before .get-row in
-    met-joined (s .args .o .row) (y .result) (rowAt (s .args .work .now) (24 * s .args .i)) (s .pre .2) (y .ensures .1) (y .ensures .0)
-    (s .args .o .place) (s .args .work .now) (c .sum .result) (record { sfits = c .sum .ok }) (c .sum .ensures)
-    (c .before .before .before .before .before .before .if1 .taken) (c .before .before .before .if2 .taken)
+    let at-if1 = c .before .before .before .before in
+    let at-get-row = at-if1 .before .before .before in
+    let s = at-get-row .before .before .before .before in
+    let y = at-get-row .get-row in
+    met-joined (s .args .o .row) (y .result) (rowAt (s .args .work .now) (24 * s .args .i)) (y .ensures .0)
+    (s .args .o .place) (s .args .work .now) (c .joined .result) (c .joined .ensures) (at-if1 .if1 .taken) (c .before .if2 .taken)
 
 close-requires : tie.Need-close-requires
 close-requires c κs = search needs
@@ -42,9 +44,9 @@ returns-2 c =
     let s = c .before .before .before .before .before .before .before .before .before .before .before in
     let y = c .before .before .before .before .before .before .before .get-row in
     let k = c .before .before .close in
-    met-opened (s .args .o .row) (y .result) (rowAt (s .args .work .now) (24 * s .args .i)) (s .pre .2) (y .ensures .1) (y .ensures .0)
+    met-opened (s .args .o .row) (y .result) (rowAt (s .args .work .now) (24 * s .args .i)) (y .ensures .0) (y .ensures .1)
     (s .args .o .place) (k .result) (s .args .work .now) (k .last .0)
-    (λ a b. ⊎-elim (λ w. w .3 .left b) (λ w. w .left a) (c .before .before .before .before .if1 .came)) (k .ensures)
+    (λ b a. ⊎-elim (λ w. w .3 .left b) (λ w. w .left a) (c .before .before .before .before .if1 .came)) (k .ensures)
 
 pub meet-spec : {M : Type 1} → statement M
 meet-spec =
@@ -52,7 +54,7 @@ meet-spec =
     (tie.spec
     mul-get-row
     get-row-requires
-    sum-requires
+    joined-requires
     same-length
     returns
     close-requires

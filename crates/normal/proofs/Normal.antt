@@ -1,23 +1,22 @@
 -- The normal form of a list of terms ascends and has no zeros, and is the only such list with its coefficients.
 use mathlib.Core.Path.{_≡_, refl, sym, ap, _∙_}
 use mathlib.Core.Bool.{Bool, true, false, cond, true≢false}
-use mathlib.Core.List.{List, [], _∷_, map}
+use mathlib.Core.List.{List, [], _∷_}
 use Prim.Native.Nat.{ℕ}
 use lib.Dec.{eqb}
 use lib.IntN.{natAbs}
-use borrow.Author.Tests.{eq-eqb, eqb-false}
+use borrow.Author.Tests.{eqb-false}
 use Rattle.modes.specs.declared.Term.{Term}
 use Rattle.modes.specs.Every.{Every, none, more}
 use Rattle.modes.proofs.Every.{every-map}
 use Rattle.products.specs.Operators.{element}
 use Rattle.record.specs.Terms.{before, Above, Ascending, empty, above}
 use Rattle.record.specs.Coefficients.{coeffOf}
-use Rattle.record.specs.Canonical.{Nonzero}
+use Rattle.record.specs.Canonical.{Inside, Nonzero}
 use Rattle.record.proofs.Order.{Compared, less, same, greater, compare, above-trans}
 use Rattle.record.proofs.Coefficients.{same-terms}
-use Rattle.lincomb.specs.Normal.{alike, join, insert, collect, dropZeros, normal}
-use Rattle.lincomb.specs.Sums.{turn}
-use Rattle.lincomb.proofs.Totals.{coeff-normal, element-normal}
+use Rattle.normal.specs.Normal.{alike, join, insert, collect, dropZeros, normal}
+use Rattle.normal.proofs.Totals.{alike-words, coeff-normal, element-normal}
 
 -- ---- what holds of every term
 
@@ -57,6 +56,10 @@ pub above-joins : (t : Term) → Joins (λ u. before t u ≡ true)
 unfolding join before
 above-joins t u v p q = q
 
+pub inside-joins : (m : ℕ) (t u : Term) → Inside m t → Inside m u → Inside m (join t u)
+unfolding join
+inside-joins m t u h k = record { ann = k .ann; cre = k .cre }
+
 -- ---- order
 
 pub ascending-insert : (t : Term) (ts : List Term) → Ascending ts → Ascending (insert t ts)
@@ -71,10 +74,7 @@ ascending-insert t (u ∷ ts) (above a s) = go (ascending-insert t ts s) (alike 
       where
         after : Compared t u → before u t ≡ true
         after (less q) = absurd (true≢false (sym q ∙ f))
-        after (same p q) = absurd (true≢false (sym both ∙ e))
-          where
-            both : alike t u ≡ true
-            both = rw (eq-eqb _ _ p, eq-eqb _ _ q)
+        after (same p q) = absurd (true≢false (sym (alike-words t u p q) ∙ e))
         after (greater q) = q
 
 pub ascending-collect : (ts : List Term) → Ascending (collect ts)
@@ -90,12 +90,6 @@ ascending-drop (t ∷ ts) (above a s) = go (every-drop ts a) (ascending-drop ts 
     go : Above t (dropZeros ts) → Ascending (dropZeros ts) → (b : Bool) → Ascending (cond b (dropZeros ts) (t ∷ dropZeros ts))
     go h k true = k
     go h k false = above h k
-
--- signs change no order
-pub ascending-turn : (minus : Bool) (ts : List Term) → Ascending ts → Ascending (map (turn minus) ts)
-unfolding before
-ascending-turn minus [] empty = empty
-ascending-turn minus (t ∷ ts) (above a s) = above (every-map (turn minus) ts (λ u h. h) a) (ascending-turn minus ts s)
 
 pub nonzero-drop : (ts : List Term) → Every Nonzero (dropZeros ts)
 unfolding dropZeros

@@ -1,11 +1,11 @@
--- `lincomb::joined` meets its contract.
+-- `normal::joined` meets its contract.
 use mir.Syntax.{w64}
 use mir.Val.{SFits}
 use mir.Facts.{toZ-ofZ}
-use Rattle.lincomb.specs.Normal.{join}
+use Rattle.normal.specs.Normal.{join}
 use borrow.Author.Needs.{needs}
-use Rattle.lincomb.proofs.joined.Statement.{statement}
-use Rattle.lincomb.proofs.joined.Tie as tie
+use Rattle.normal.proofs.joined.Statement.{statement}
+use Rattle.normal.proofs.joined.Tie as tie
 
 sum-requires : tie.Need-sum-requires
 sum-requires c κs = search needs

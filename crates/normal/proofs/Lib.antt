@@ -1,0 +1,4 @@
+pub mod Totals
+pub mod Drops
+pub mod Normal
+pub mod Unique
