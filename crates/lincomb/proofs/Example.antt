@@ -12,8 +12,9 @@ use Rattle.modes.specs.Refusals.{orElse}
 use Rattle.modes.specs.Spaces.{inside}
 use Rattle.record.specs.Refusals.{termRefusal, termsRefusal, refusalOf}
 use Rattle.lincomb.specs.Normal.{join, insert, collect, dropZeros}
+use Rattle.record.specs.Outputs.{recordOutput}
 use Rattle.normal.specs.Normal.{join, insert, collect, dropZeros}
-use Rattle.lincomb.specs.Results.{pairRefusal, resultRefusal, recordOutput}
+use Rattle.lincomb.specs.Results.{pairRefusal, resultRefusal}
 use Rattle.lincomb.specs.Sums.{added, subtracted}
 
 pub twice : (added 82 example example) .bytes ≡ encode 2 (record { cre = 1; ann = 1; coeff = pos 2 } ∷ record { cre = 2; ann = 2; coeff = negsuc 1 } ∷ []) ++ zeros 2

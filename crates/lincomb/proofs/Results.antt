@@ -1,18 +1,17 @@
 -- Calls of two records that write a record: their refusals case by case, and that what they write is accepted and holds the result.
-use mathlib.Core.Path.{_≡_, refl, sym, ap, _∙_, subst}
+use mathlib.Core.Path.{_≡_, refl, sym, ap, _∙_}
 use mathlib.Core.Bool.{Bool, true, false, cond}
-use mathlib.Core.List.{List, _++_}
+use mathlib.Core.List.{List}
 use mathlib.Core.Logic.{_⊎_, ⊎-elim}
-use Prim.Native.Nat.{ℕ, _+_, _*_, _-_, _^_, _≤_, _<_}
+use Prim.Native.Nat.{ℕ, _+_, _*_, _^_, _≤_, _<_}
 use native.Mathlib.Omega.{arith}
 use lib.Dec.{eqb, leb}
 use lib.ListN.{length, take}
-use lib.Seq.{take-at}
-use borrow.Author.Tests.{eq-eqb, ne-eqb, le-leb, lt-leb, eqb-true, eqb-false, leb-true}
+use borrow.Author.Tests.{eq-eqb, ne-eqb, le-leb, lt-leb, eqb-true, eqb-false}
 use Rattle.modes.specs.declared.Term.{Term}
 use Rattle.modes.specs.declared.Refusal.{Refusal}
 use Rattle.modes.specs.declared.Written.{Written}
-use Rattle.modes.specs.Answers.{refusal, none, wrote}
+use Rattle.modes.specs.Answers.{refusal, none}
 use Rattle.modes.proofs.Digits.{lt-or-ge}
 use Rattle.lent.specs.Bytes.{put, zeros}
 use Rattle.modes.specs.Every.{Every}
@@ -22,12 +21,14 @@ use Rattle.record.specs.Layout.{header, columns, encode, modesOf, countOf, term
 use Rattle.modes.specs.Refusals.{orElse}
 use Rattle.record.specs.Refusals.{refusalOf, checkedOf}
 use Rattle.record.specs.Canonical.{Inside, Nonzero, Canonical}
+use Rattle.record.specs.Outputs.{recordOutput}
 use Rattle.record.specs.declared.Checked.{Checked}
 use Rattle.modes.proofs.Refusals.{or-first, or-second, neither}
 use Rattle.record.proofs.Accepted.{accepted-laid, accepted-canonical, accepted-none, Accepted, accepted, refused}
 use Rattle.record.proofs.Columns.{record-written}
 use Rattle.record.proofs.Inverse.{length-encode, decode-modes, decode-terms, encode-accepted}
 use Rattle.lincomb.specs.Results.{pairRefusal, resultRefusal, recordOutput, resultOf, shut, standing, openedOf}
+use Rattle.record.proofs.Outputs.{bound-kept, output-earlier, output-late, output-filled, output-fine, output-accepted, output-modes, output-terms}
 use Rattle.lincomb.specs.Merging.{Sound}
 use Rattle.lincomb.specs.Tallies.{Tallied}
 use Rattle.lincomb.specs.declared.Opened.{Opened}
@@ -181,14 +182,11 @@ unfolding resultRefusal
 deliverable room n w e =
     let one = neither (cond (leb n 2048) none (refusal 10 0 0)) _ e in
     let two = neither (cond (leb w (2 ^ 60)) none (refusal 9 0 0)) _ (one .1) in
-    record { few = kept n 2048 10 (one .0) (λ h. absurd (omega arith)); light = kept w (2 ^ 60) 9 (two .0) (λ h. absurd (omega arith)); long = kept (32 + 24 * n) room 11 (two .1) (λ h. absurd (omega arith)) }
-  where
-    kept : (x y k : ℕ) → (cond (leb x y) none (refusal k 0 0)) .number ≡ 0 → (k ≡ 0 → ⊥) → x ≤ y
-    kept x y k = go (leb x y) refl
-      where
-        go : (s : Bool) → leb x y ≡ s → (cond s none (refusal k 0 0)) .number ≡ 0 → (k ≡ 0 → ⊥) → x ≤ y
-        go true q z h = leb-true x y q
-        go false q z h = absurd (h z)
+    record {
+      few = bound-kept n 2048 10 (one .0) (λ h. absurd (omega arith));
+      light = bound-kept w (2 ^ 60) 9 (two .0) (λ h. absurd (omega arith));
+      long = bound-kept (32 + 24 * n) room 11 (two .1) (λ h. absurd (omega arith));
+    }
 
 -- what was counted and weighed as far as the ceiling is judged as the terms are
 pub verdict-same : (room : ℕ) (ts : List Term) (r : Tally) → Tallied ts r → resultRefusal room (r .terms) (r .weight) ≡ resultRefusal room (length ts) (weight ts)
@@ -200,30 +198,17 @@ verdict-same room ts r g =
 
 module _ (room branches : ℕ) (earlier : Refusal) (m : ℕ) (ts : List Term) where
   pub refused-earlier : (earlier .number ≡ 0 → ⊥) → refusedOutput room earlier ≡ resultOf room branches earlier m ts
-  unfolding recordOutput
-  refused-earlier h = rw (or-first earlier (resultRefusal room (length ts) (weight ts)) h, ne-eqb _ _ h)
+  refused-earlier = output-earlier room branches earlier m ts (resultRefusal room (length ts) (weight ts))
 
   module _ (fine : earlier ≡ none) (late : Refusal) (is : late ≡ resultRefusal room (length ts) (weight ts)) where
+    judged : recordOutput room branches (orElse earlier late) m ts ≡ resultOf room branches earlier m ts
+    judged = ap (λ (r : Refusal). recordOutput room branches (orElse earlier r) m ts) is
+
     pub refused-late : (late .number ≡ 0 → ⊥) → refusedOutput room late ≡ resultOf room branches earlier m ts
-    unfolding recordOutput
-    refused-late h = rw (fine, ← is, or-second none late refl, ne-eqb _ _ h)
+    refused-late h = output-late room branches earlier m ts fine late h ∙ judged
 
     pub delivers : late .number ≡ 0 → filledOutput room branches (encode m ts) ≡ resultOf room branches earlier m ts
-    unfolding recordOutput
-    delivers h = rw (fine, ← is, or-second none late refl, eq-eqb _ _ h)
-
-pub gives-as : {o q : Output} {r : Written} {x : List ℕ} → o ≡ q → Gives o r x → Gives q r x
-gives-as {o} {q} {r} {x} e g = subst (λ (y : Output). Gives y r x) e g
-
--- what the stores of a header, of columns and of zeros past them give
-pub record-given : (out one two three : List ℕ) (branches m n : ℕ) (ts : List Term) → n ≡ length ts → 32 + 24 * n ≤ length out
-    → one ≡ put out 0 (header m n) → two ≡ put one 32 (columns ts) → three ≡ take (32 + 24 * n) two ++ zeros (length two - (32 + 24 * n))
-    → Gives (filledOutput (length out) branches (encode m ts)) (wrote (32 + 24 * n) branches) three
-record-given out one two three branches m n ts count room e1 e2 e3 =
-    record {
-      answer = ap (λ (k : ℕ). wrote k branches) (ap (λ (k : ℕ). 32 + 24 * k) count ∙ sym (length-encode m ts));
-      bytes = record-written out one two three m n ts count room e1 e2 e3;
-    }
+    delivers h = output-filled room branches earlier m ts fine late h ∙ judged
 
 -- a call that is not refused
 module _ (room branches : ℕ) (earlier : Refusal) (m : ℕ) (ts : List Term) (r : Written) (after : List ℕ)
@@ -231,40 +216,26 @@ module _ (room branches : ℕ) (earlier : Refusal) (m : ℕ) (ts : List Term) (r
   abbrev whole : Refusal
   whole = orElse earlier (resultRefusal room (length ts) (weight ts))
 
-  not-refused : (whole .number ≡ 0) × (resultOf room branches earlier m ts ≡ filledOutput room branches (encode m ts))
-  unfolding recordOutput
-  not-refused = go (eqb (whole .number) 0) refl (g .answer)
-    where
-      go : (s : Bool) → eqb (whole .number) 0 ≡ s
-          → r ≡ (cond s (filledOutput room branches (encode m ts)) (refusedOutput room whole)) .answer
-          → (whole .number ≡ 0) × (cond s (filledOutput room branches (encode m ts)) (refusedOutput room whole) ≡ filledOutput room branches (encode m ts))
-      go true e p = (eqb-true _ _ e, refl)
-      go false e p = absurd (eqb-false _ _ e (ap (λ (w : Written). w .refusal .number) (sym p) ∙ z))
+  neither-refused : (earlier .number ≡ 0) × ((resultRefusal room (length ts) (weight ts)) .number ≡ 0)
+  neither-refused = neither earlier (resultRefusal room (length ts) (weight ts)) (output-fine room branches whole m ts r after g z)
 
   pub result-earlier : earlier .number ≡ 0
-  result-earlier = neither earlier (resultRefusal room (length ts) (weight ts)) (not-refused .0) .0
+  result-earlier = neither-refused .0
 
-  pub result-deliverable : Deliverable room (length ts) (weight ts)
-  result-deliverable = deliverable room (length ts) (weight ts) (neither earlier (resultRefusal room (length ts) (weight ts)) (not-refused .0) .1)
+  result-deliverable : Deliverable room (length ts) (weight ts)
+  result-deliverable = deliverable room (length ts) (weight ts) (neither-refused .1)
 
-  -- the bytes of the answer's length are the record
-  pub result-record : take (r .len) after ≡ encode m ts
-  result-record =
-      let bytes : after ≡ encode m ts ++ zeros (room - length (encode m ts)) = g .bytes ∙ ap (λ (o : Output). o .bytes) (not-refused .1) in
-      let len : r .len ≡ length (encode m ts) = ap (λ (w : Written). w .len) (g .answer ∙ ap (λ (o : Output). o .answer) (not-refused .1)) in
-      ap (take (r .len)) bytes ∙ take-at (encode m ts) _ (r .len) (sym len)
-
-  -- THE OUTPUT OF A CALL. Where the result ascends, has no zeros and holds only modes below m, the record is accepted, and its terms are the result
+  -- where the result ascends, has no zeros and holds only modes below m, the record is accepted, and its terms are the result
   module _ (some : 1 ≤ m) (most : m ≤ 64) (within : Every (Inside m) ts) (ascending : Ascending ts) (nonzero : Every Nonzero ts) where
-    pub result-canonical : Canonical m ts
+    result-canonical : Canonical m ts
     result-canonical =
         record { some = some; most = most; few = result-deliverable .few; inside = within; ascending = ascending; nonzero = nonzero; light = result-deliverable .light }
 
     pub result-accepted : (o : ℕ) → refusalOf o (take (r .len) after) ≡ none
-    result-accepted o = ap (refusalOf o) result-record ∙ encode-accepted m ts result-canonical o
+    result-accepted = output-accepted room branches whole m ts r after g z result-canonical
 
     pub result-modes : modesOf (take (r .len) after) ≡ m
-    result-modes = ap modesOf result-record ∙ decode-modes m ts result-canonical
+    result-modes = output-modes room branches whole m ts r after g z result-canonical
 
     pub result-terms : termsOf (take (r .len) after) ≡ ts
-    result-terms = ap termsOf result-record ∙ decode-terms m ts result-canonical
+    result-terms = output-terms room branches whole m ts r after g z result-canonical

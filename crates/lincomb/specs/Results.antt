@@ -1,17 +1,18 @@
 -- Calls of two records that write a record: what refuses them, and their whole output.
-use Prim.Native.Nat.{ℕ, _+_, _*_, _^_}
+use Prim.Native.Nat.{ℕ, _^_}
 use mathlib.Core.Bool.{cond}
 use mathlib.Core.List.{List}
 use lib.Dec.{eqb, leb}
 use lib.ListN.{length}
 use Rattle.modes.specs.declared.Term.{Term}
 use Rattle.modes.specs.declared.Refusal.{Refusal}
-use Rattle.modes.specs.Answers.{none, modesDiffer, resultTooHeavy, tooManyTerms, outputTooShort}
+use Rattle.modes.specs.Answers.{none, modesDiffer, resultTooHeavy, tooManyTerms}
 use Rattle.lent.specs.Outputs.{Output, refusedOutput, filledOutput}
 use Rattle.record.specs.Terms.{weight}
 use Rattle.record.specs.Layout.{encode, modesOf, countOf, termsOf}
 use Rattle.modes.specs.Refusals.{need, orElse}
 use Rattle.record.specs.Refusals.{refusalOf}
+use Rattle.record.specs.Outputs.{roomRefusal, recordOutput}
 use Rattle.lincomb.specs.declared.Opened.{Opened}
 
 -- the first record fully, the second likewise, then 6
@@ -21,12 +22,7 @@ pairRefusal a b = orElse (refusalOf 1 a) (orElse (refusalOf 2 b) (need (eqb (mod
 -- a result of n terms and weight w, for an output of room bytes: 10, 9, 11
 unfoldable pub resultRefusal : ℕ → ℕ → ℕ → Refusal
 resultRefusal room n w =
-    orElse (need (leb n 2048) tooManyTerms)
-    (orElse (need (leb w (2 ^ 60)) resultTooHeavy) (need (leb (32 + 24 * n) room) outputTooShort))
-
--- the record of the terms ts on m modes, or the refusal r
-unfoldable pub recordOutput : ℕ → ℕ → Refusal → ℕ → List Term → Output
-recordOutput room branches r m ts = cond (eqb (r .number) 0) (filledOutput room branches (encode m ts)) (refusedOutput room r)
+    orElse (need (leb n 2048) tooManyTerms) (orElse (need (leb w (2 ^ 60)) resultTooHeavy) (roomRefusal room n))
 
 -- a call whose result is ts, where earlier is what refuses it before the result is looked at
 abbrev pub resultOf : ℕ → ℕ → Refusal → ℕ → List Term → Output

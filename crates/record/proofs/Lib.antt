@@ -13,3 +13,4 @@ pub mod Columns
 pub mod Blocks
 pub mod Example
 pub mod Unique
+pub mod Outputs

@@ -9,3 +9,4 @@ pub mod Reading
 pub mod Weights
 pub mod Blocks
 pub mod Example
+pub mod Outputs

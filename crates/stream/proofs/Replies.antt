@@ -17,7 +17,7 @@ use Rattle.modes.specs.Answers.{refusal}
 use Rattle.lent.specs.Bytes.{zeros}
 use Rattle.lent.specs.Outputs.{Output, refusedOutput, filledOutput}
 use Rattle.record.specs.Layout.{encode}
-use Rattle.lincomb.specs.Results.{recordOutput}
+use Rattle.record.specs.Outputs.{recordOutput}
 use Rattle.multiply.specs.Answers.{commutatorOf, Leaves}
 use Rattle.stream.specs.Replies.{totalOf, holdsFirst, answerTo, textOf, Says, Replies}
 use Rattle.stream.specs.Lines.{lineIn}

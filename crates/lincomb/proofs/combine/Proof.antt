@@ -1,5 +1,5 @@
 -- `lincomb::combine` meets its contract: each way out gives what the definition says.
-use Rattle.lincomb.proofs.Results.{gives-as}
+use Rattle.record.proofs.Outputs.{gives-as}
 use Rattle.lincomb.proofs.Sums.{pair-refused, sound-left, sound-right, result-refused, room-enough, result-delivered}
 use borrow.Author.Needs.{needs}
 use Rattle.lincomb.proofs.combine.Statement.{statement}

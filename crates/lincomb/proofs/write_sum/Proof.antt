@@ -1,5 +1,5 @@
 -- `lincomb::write_sum` meets its contract: header, columns, and zeros past them.
-use Rattle.lincomb.proofs.Results.{record-given}
+use Rattle.record.proofs.Outputs.{record-given}
 use borrow.Author.Needs.{needs}
 use Rattle.lincomb.proofs.write_sum.Statement.{statement}
 use Rattle.lincomb.proofs.write_sum.Tie as tie

@@ -7,7 +7,8 @@ use Rattle.modes.specs.declared.Refusal.{Refusal}
 use Rattle.modes.specs.Answers.{none}
 use Rattle.lent.specs.Rows.{rowsAt}
 use Rattle.lent.proofs.RowLaws.{length-rows-at}
-use Rattle.lincomb.proofs.Results.{deliverable, refused-late, delivers, gives-as, record-given}
+use Rattle.record.proofs.Outputs.{gives-as, record-given}
+use Rattle.lincomb.proofs.Results.{deliverable, refused-late, delivers}
 use Rattle.multiply.proofs.Delivering.{verdict-is}
 use Rattle.multiply.proofs.deliver.Statement.{statement}
 use Rattle.multiply.proofs.deliver.Tie as tie

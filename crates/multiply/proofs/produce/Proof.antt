@@ -2,7 +2,7 @@
 use borrow.Author.Needs.{needs}
 use native.Mathlib.Omega.{arith}
 use lib.ListN.{length}
-use Rattle.lincomb.proofs.Results.{gives-as}
+use Rattle.record.proofs.Outputs.{gives-as}
 use Rattle.multiply.proofs.Answering.{pair-refused, heavy-refused, left-size, right-size, weights-light, too-many, collect-room, collect-light, delivered}
 use Rattle.multiply.proofs.produce.Statement.{statement}
 use Rattle.multiply.proofs.produce.Tie as tie

@@ -1,0 +1,94 @@
+-- Calls that write a record to a lent output: each way out, and that what stands there where none refuses is accepted and holds the terms.
+use mathlib.Core.Path.{_≡_, refl, sym, ap, _∙_, subst}
+use mathlib.Core.Bool.{Bool, true, false, cond}
+use mathlib.Core.List.{List, _++_}
+use Prim.Native.Nat.{ℕ, _+_, _*_, _-_, _≤_}
+use lib.Dec.{eqb, leb}
+use lib.ListN.{length, take}
+use lib.Seq.{take-at}
+use borrow.Author.Tests.{eq-eqb, ne-eqb, eqb-true, eqb-false, leb-true}
+use Rattle.modes.specs.declared.Term.{Term}
+use Rattle.modes.specs.declared.Refusal.{Refusal}
+use Rattle.modes.specs.declared.Written.{Written}
+use Rattle.modes.specs.Answers.{refusal, none, wrote}
+use Rattle.lent.specs.Bytes.{put, zeros}
+use Rattle.lent.specs.Outputs.{Output, refusedOutput, filledOutput, Gives}
+use Rattle.record.specs.Layout.{header, columns, encode, modesOf, termsOf}
+use Rattle.modes.specs.Refusals.{orElse}
+use Rattle.record.specs.Refusals.{refusalOf}
+use Rattle.record.specs.Canonical.{Canonical}
+use Rattle.record.specs.Outputs.{recordOutput}
+use Rattle.modes.proofs.Refusals.{or-first, or-second}
+use Rattle.record.proofs.Columns.{record-written}
+use Rattle.record.proofs.Inverse.{length-encode, decode-modes, decode-terms, encode-accepted}
+
+-- a bound whose number does not refuse is kept
+pub bound-kept : (x y k : ℕ) → (cond (leb x y) none (refusal k 0 0)) .number ≡ 0 → (k ≡ 0 → ⊥) → x ≤ y
+bound-kept x y k = go (leb x y) refl
+  where
+    go : (s : Bool) → leb x y ≡ s → (cond s none (refusal k 0 0)) .number ≡ 0 → (k ≡ 0 → ⊥) → x ≤ y
+    go true q z h = leb-true x y q
+    go false q z h = absurd (h z)
+
+-- ---- each way out of a call that is refused by earlier, or else by late
+
+module _ (room branches : ℕ) (earlier : Refusal) (m : ℕ) (ts : List Term) where
+  pub output-earlier : (late : Refusal) → (earlier .number ≡ 0 → ⊥) → refusedOutput room earlier ≡ recordOutput room branches (orElse earlier late) m ts
+  unfolding recordOutput
+  output-earlier late h = rw (or-first earlier late h, ne-eqb _ _ h)
+
+  module _ (fine : earlier ≡ none) (late : Refusal) where
+    pub output-late : (late .number ≡ 0 → ⊥) → refusedOutput room late ≡ recordOutput room branches (orElse earlier late) m ts
+    unfolding recordOutput
+    output-late h = rw (fine, or-second none late refl, ne-eqb _ _ h)
+
+    pub output-filled : late .number ≡ 0 → filledOutput room branches (encode m ts) ≡ recordOutput room branches (orElse earlier late) m ts
+    unfolding recordOutput
+    output-filled h = rw (fine, or-second none late refl, eq-eqb _ _ h)
+
+pub gives-as : {o q : Output} {r : Written} {x : List ℕ} → o ≡ q → Gives o r x → Gives q r x
+gives-as {o} {q} {r} {x} e g = subst (λ (y : Output). Gives y r x) e g
+
+-- what the stores of a header, of columns and of zeros past them give
+pub record-given : (out one two three : List ℕ) (branches m n : ℕ) (ts : List Term) → n ≡ length ts → 32 + 24 * n ≤ length out
+    → one ≡ put out 0 (header m n) → two ≡ put one 32 (columns ts) → three ≡ take (32 + 24 * n) two ++ zeros (length two - (32 + 24 * n))
+    → Gives (filledOutput (length out) branches (encode m ts)) (wrote (32 + 24 * n) branches) three
+record-given out one two three branches m n ts count room e1 e2 e3 =
+    record {
+      answer = ap (λ (k : ℕ). wrote k branches) (ap (λ (k : ℕ). 32 + 24 * k) count ∙ sym (length-encode m ts));
+      bytes = record-written out one two three m n ts count room e1 e2 e3;
+    }
+
+-- ---- a call that is not refused
+
+module _ (room branches : ℕ) (f : Refusal) (m : ℕ) (ts : List Term) (r : Written) (after : List ℕ)
+    (g : Gives (recordOutput room branches f m ts) r after) (z : r .refusal .number ≡ 0) where
+  not-refused : (f .number ≡ 0) × (recordOutput room branches f m ts ≡ filledOutput room branches (encode m ts))
+  unfolding recordOutput
+  not-refused = go (eqb (f .number) 0) refl (g .answer)
+    where
+      go : (s : Bool) → eqb (f .number) 0 ≡ s → r ≡ (cond s (filledOutput room branches (encode m ts)) (refusedOutput room f)) .answer
+          → (f .number ≡ 0) × (cond s (filledOutput room branches (encode m ts)) (refusedOutput room f) ≡ filledOutput room branches (encode m ts))
+      go true e p = (eqb-true _ _ e, refl)
+      go false e p = absurd (eqb-false _ _ e (ap (λ (w : Written). w .refusal .number) (sym p) ∙ z))
+
+  pub output-fine : f .number ≡ 0
+  output-fine = not-refused .0
+
+  -- the bytes of the answer's length are the record
+  pub output-record : take (r .len) after ≡ encode m ts
+  output-record =
+      let bytes : after ≡ encode m ts ++ zeros (room - length (encode m ts)) = g .bytes ∙ ap (λ (o : Output). o .bytes) (not-refused .1) in
+      let len : r .len ≡ length (encode m ts) = ap (λ (w : Written). w .len) (g .answer ∙ ap (λ (o : Output). o .answer) (not-refused .1)) in
+      ap (take (r .len)) bytes ∙ take-at (encode m ts) _ (r .len) (sym len)
+
+  -- THE OUTPUT OF A CALL. Where the terms are a canonical form, the record is accepted, and its modes and terms are these
+  module _ (k : Canonical m ts) where
+    pub output-accepted : (o : ℕ) → refusalOf o (take (r .len) after) ≡ none
+    output-accepted o = ap (refusalOf o) output-record ∙ encode-accepted m ts k o
+
+    pub output-modes : modesOf (take (r .len) after) ≡ m
+    output-modes = ap modesOf output-record ∙ decode-modes m ts k
+
+    pub output-terms : termsOf (take (r .len) after) ≡ ts
+    output-terms = ap termsOf output-record ∙ decode-terms m ts k
