@@ -1,11 +1,12 @@
 -- A record is Hermitian exactly if the adjoint of every term is among its terms; and halving finds a term that is among them.
 use mathlib.Core.Path.{_≡_, refl, sym, ap, ap₂, _∙_, subst}
 use mathlib.Core.Bool.{Bool, true, false, cond, true≢false}
-use mathlib.Core.List.{List, [], _∷_}
-use mathlib.Core.Logic.{inl, inr}
+use mathlib.Core.List.{List, [], _∷_, map}
+use mathlib.Core.Logic.{_⊎_, inl, inr}
 use Prim.Native.Nat.{ℕ, suc, _+_, _≤_}
 use native.Mathlib.Omega.{arith}
 use lib.Dec.{eqb}
+use lib.IntN.{pos, natAbs}
 use borrow.Author.Tests.{eqb-true, eqb-false}
 use mir.Syntax.{w64}
 use mir.Val.{SFits, toZ, ofZ}
@@ -14,14 +15,22 @@ use lib.ListN.{length, take, drop, drop-of-length-le}
 use lib.Seq.{take-all}
 use Rattle.modes.specs.declared.Term.{Term}
 use Rattle.modes.specs.Every.{Every, none, more}
-use Rattle.modes.proofs.Every.{every-last}
+use Rattle.modes.proofs.Every.{every-last, every-implies, every-both}
 use Rattle.lent.proofs.RowLaws.{term-of}
+use Rattle.products.specs.Operators.{signed}
+use Rattle.products.proofs.Signs.{signed-zero, abs-signed}
 use Rattle.record.specs.Terms.{before, Above, Ascending, empty, above}
 use Rattle.record.specs.Blocks.{countIf, earlier}
+use Rattle.record.specs.Coefficients.{coeffOf}
+use Rattle.record.specs.Canonical.{Nonzero}
 use Rattle.record.proofs.Order.{before-one-way}
-use Rattle.adjoint.specs.Adjoint.{adjointTerm, inserted, adjointTerms}
-use Rattle.adjoint.specs.Hermitian.{Among, Paired, Tells}
-use Rattle.adjoint.proofs.Terms.{by-order, every-adjoint, ascending-adjoint, adjoint-twice}
+use Rattle.record.proofs.Accepted.{abs-zero}
+use Rattle.normal.proofs.Totals.{coeff-normal}
+use Rattle.normal.proofs.Normal.{normal-is}
+use Rattle.normal.proofs.Words.{Some, same-or-not, held, own-coeffs}
+use Rattle.adjoint.specs.Adjoint.{oddPairs, adjointTerm, adjointTerms}
+use Rattle.adjoint.specs.Hermitian.{Among, AdjointsAmong, Tells}
+use Rattle.adjoint.proofs.Terms.{still-nonzero, oddWords, coeff-adjoint}
 use Rattle.adjoint.proofs.Writing.{every-drop, take-one-more}
 
 -- ---- one of the terms
@@ -38,60 +47,50 @@ among-every P (t ∷ ts) h = more (h t (inl refl)) (among-every P ts (λ u a. h 
 pub drop-among : (ts us : List Term) (t : Term) (i : ℕ) → drop i ts ≡ t ∷ us → Among t ts
 drop-among ts us t i e = every-drop ts us t i (among-every (λ u. Among u ts) ts (λ u a. a)) e
 
--- ---- two ascending lists with the same terms are one
-
 not-itself : (t : Term) → before t t ≡ true → ⊥
 not-itself t e = before-one-way t t e e
 
-same-head : (t u : Term) (ts us : List Term) → Above t ts → Above u us → Among t (u ∷ us) → Among u (t ∷ ts) → t ≡ u
-same-head t u ts us h k (inl e) b = sym e
-same-head t u ts us h k (inr a) (inl e) = e
-same-head t u ts us h k (inr a) (inr b) = absurd (before-one-way t u (every-among u ts h b) (every-among t us k a))
+-- ---- by their coefficients: in an ascending list, the terms are those at whose words the coefficient is not zero
 
--- what stands after the head is among what stands after it
-in-tail : (t u : Term) (us : List Term) → before u t ≡ true → Among t (u ∷ us) → Among t us
-in-tail t u us e (inl p) = absurd (not-itself t (rw p at e))
-in-tail t u us e (inr a) = a
+among-coeff : (t : Term) (ts : List Term) → Ascending ts → Among t ts → coeffOf (t .cre) (t .ann) ts ≡ t .coeff
+among-coeff t ts s a = every-among t ts (own-coeffs ts s) a
 
-same-members : (ts us : List Term) → Ascending ts → Ascending us → ((t : Term) → Among t ts → Among t us) → ((t : Term) → Among t us → Among t ts) → ts ≡ us
-same-members [] [] empty empty f g = refl
-same-members [] (u ∷ us) empty s f g = absurd (g u (inl refl))
-same-members (t ∷ ts) [] s empty f g = absurd (f t (inl refl))
-same-members (t ∷ ts) (u ∷ us) (above h s) (above k r) f g =
-    let e : t ≡ u = same-head t u ts us h k (f t (inl refl)) (g u (inl refl)) in
-    ap₂ {C = List Term} (λ (x : Term) (xs : List Term). x ∷ xs) e
-    (same-members ts us s r
-    (λ x a. in-tail x u us (subst (λ (y : Term). before y x ≡ true) e (every-among x ts h a)) (f x (inr a)))
-    (λ x a. in-tail x t ts (subst (λ (y : Term). before y x ≡ true) (sym e) (every-among x us k a)) (g x (inr a))))
+some-among : {P Q : Term → Type 0} (t : Term) (ts : List Term) → ((u : Term) → P u → Q u → u ≡ t) → Some P ts → Every Q ts → Among t ts
+some-among t [] f s none = s
+some-among t (u ∷ ts) f (inl p) (more q qs) = inl (f u p q)
+some-among t (u ∷ ts) f (inr s) (more q qs) = inr (some-among t ts f s qs)
 
--- ---- the adjoint terms
+coeff-among : (t : Term) (ts : List Term) → Ascending ts → coeffOf (t .cre) (t .ann) ts ≡ t .coeff → Nonzero t → Among t ts
+coeff-among t ts s e n =
+    some-among t ts (λ u w q. term-of (w .0) (w .1) (sym q ∙ ap₂ (λ (c a : ℕ). coeffOf c a ts) (w .1) (w .0) ∙ e))
+    (held (t .cre) (t .ann) ts (λ z. n (sym e ∙ z))) (own-coeffs ts s)
 
-among-first : (t : Term) (ts : List Term) → Among t (inserted t ts)
-unfolding inserted
-among-first t [] = inl refl
-among-first t (u ∷ ts) = by-order t u ts (Among t) (inl refl) (inr (among-first t ts))
+-- every term has its adjoint among them exactly if the adjoint terms are the terms
+pub among-same : (ts : List Term) → Ascending ts → Every Nonzero ts → AdjointsAmong ts ts → adjointTerms ts ≡ ts
+unfolding adjointTerm oddPairs
+among-same ts s n h =
+    sym (normal-is ts (map adjointTerm ts) s n
+    (λ c a. agree c a (same-or-not (coeffOf a c ts) (pos 0)) (same-or-not (coeffOf c a ts) (pos 0)) ∙ sym (coeff-adjoint c a ts)))
+  where
+    -- the term at {a|c} has its adjoint at {c|a}
+    there : (c a : ℕ) → (coeffOf a c ts ≡ pos 0 → ⊥) → coeffOf c a ts ≡ signed (oddWords a c) (coeffOf a c ts)
+    there c a k =
+        let t : Term = record { cre = a; ann = c; coeff = coeffOf a c ts } in
+        among-coeff (adjointTerm t) ts s (every-among t ts h (coeff-among t ts s refl k))
 
-among-later : (t v : Term) (ts : List Term) → Among v ts → Among v (inserted t ts)
-unfolding inserted
-among-later t v [] a = absurd a
-among-later t v (u ∷ ts) (inl e) = by-order t u ts (Among v) (inr (inl e)) (inl e)
-among-later t v (u ∷ ts) (inr a) = by-order t u ts (Among v) (inr (inr a)) (inr (among-later t v ts a))
+    agree : (c a : ℕ) → (coeffOf a c ts ≡ pos 0) ⊎ (coeffOf a c ts ≡ pos 0 → ⊥) → (coeffOf c a ts ≡ pos 0) ⊎ (coeffOf c a ts ≡ pos 0 → ⊥)
+        → coeffOf c a ts ≡ signed (oddWords a c) (coeffOf a c ts)
+    agree c a (inr k) y = there c a k
+    agree c a (inl z) (inl y) = y ∙ sym (rw z (signed-zero (oddWords a c)))
+    agree c a (inl z) (inr k) = absurd (k (abs-zero _ (sym (abs-signed (oddWords c a) (coeffOf c a ts)) ∙ ap natAbs (sym (there a c k) ∙ z))))
 
-pub among-adjoint : (t : Term) (ts : List Term) → Among t ts → Among (adjointTerm t) (adjointTerms ts)
-unfolding adjointTerms
-among-adjoint t [] a = absurd a
-among-adjoint t (u ∷ ts) (inl e) =
-    subst (λ (v : Term). Among (adjointTerm v) (inserted (adjointTerm u) (adjointTerms ts))) e (among-first (adjointTerm u) (adjointTerms ts))
-among-adjoint t (u ∷ ts) (inr a) = among-later (adjointTerm u) (adjointTerm t) (adjointTerms ts) (among-adjoint t ts a)
-
--- every term has its partner exactly if the adjoint terms are the terms
-pub paired-same : (ts : List Term) → Ascending ts → Paired ts ts → adjointTerms ts ≡ ts
-paired-same ts s h =
-    same-members (adjointTerms ts) ts (ascending-adjoint ts s) s (λ u a. every-among u (adjointTerms ts) (every-adjoint (λ v. Among v ts) ts h) a)
-    (λ u a. subst (λ (v : Term). Among v (adjointTerms ts)) (adjoint-twice u) (among-adjoint (adjointTerm u) ts (every-among u ts h a)))
-
-pub same-paired : (ts : List Term) → adjointTerms ts ≡ ts → Paired ts ts
-same-paired ts e = among-every (λ u. Among (adjointTerm u) ts) ts (λ u a. subst (Among (adjointTerm u)) e (among-adjoint u ts a))
+pub same-among : (ts : List Term) → Ascending ts → Every Nonzero ts → adjointTerms ts ≡ ts → AdjointsAmong ts ts
+unfolding adjointTerm oddPairs
+same-among ts s n e =
+    every-implies ts (λ u k. coeff-among (adjointTerm u) ts s
+    (ap (coeffOf (u .ann) (u .cre)) (sym e) ∙ coeff-normal (u .ann) (u .cre) (map adjointTerm ts) ∙ coeff-adjoint (u .ann) (u .cre) ts ∙ ap (signed (oddPairs u)) (k .0))
+    (still-nonzero u (k .1)))
+    (every-both ts (own-coeffs ts s) n)
 
 -- ---- one term or two
 
@@ -108,17 +107,17 @@ same-words t u p q f g =
 
 -- ---- the walk over the terms
 
-pub pairing-goes : (ts us : List Term) (i : ℕ) (t u : Term) (b : Bool) → Paired ts (take i ts) → drop i ts ≡ t ∷ us → u ≡ adjointTerm t
-    → Tells b (Among u ts) → b ≡ true → Paired ts (take (i + 1) ts)
-pairing-goes ts us i t u b h e q k y =
+pub among-goes : (ts us : List Term) (i : ℕ) (t u : Term) (b : Bool) → AdjointsAmong ts (take i ts) → drop i ts ≡ t ∷ us → u ≡ adjointTerm t
+    → Tells b (Among u ts) → b ≡ true → AdjointsAmong ts (take (i + 1) ts)
+among-goes ts us i t u b h e q k y =
     rw (take-one-more ts us t i e) (every-last (take i ts) t h (rw q at (k .yes y)))
 
-pub pairing-fails : (ts us : List Term) (i : ℕ) (t u : Term) (b : Bool) → drop i ts ≡ t ∷ us → u ≡ adjointTerm t → Tells b (Among u ts) → b ≡ false
-    → Tells false (Paired ts ts)
-pairing-fails ts us i t u b e q k n = tells-no (λ p. k .no n (rw q (every-drop ts us t i p e)))
+pub among-fails : (ts us : List Term) (i : ℕ) (t u : Term) (b : Bool) → drop i ts ≡ t ∷ us → u ≡ adjointTerm t → Tells b (Among u ts) → b ≡ false
+    → Tells false (AdjointsAmong ts ts)
+among-fails ts us i t u b e q k n = tells-no (λ p. k .no n (rw q (every-drop ts us t i p e)))
 
-pub pairing-ends : (ts : List Term) (i : ℕ) → length ts ≤ i → Paired ts (take i ts) → Tells true (Paired ts ts)
-pairing-ends ts i h p =
+pub among-ends : (ts : List Term) (i : ℕ) → length ts ≤ i → AdjointsAmong ts (take i ts) → Tells true (AdjointsAmong ts ts)
+among-ends ts i h p =
     record { yes = λ z. rw (take-all i ts h) at p; no = λ z. absurd (true≢false z) }
 
 -- ---- the search

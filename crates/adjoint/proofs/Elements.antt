@@ -1,7 +1,7 @@
 -- The elements of the adjoint are those of the operator with bra and ket exchanged.
 use mathlib.Core.Path.{_≡_, refl, sym, ap, ap₂, _∙_}
 use mathlib.Core.Bool.{Bool, true, false, cond}
-use mathlib.Core.List.{List}
+use mathlib.Core.List.{List, map}
 use Prim.Native.Nat.{ℕ, _+_}
 use native.Mathlib.Omega.{arith}
 use lib.Dec.{eqb}
@@ -14,14 +14,16 @@ use Rattle.modes.specs.declared.Term.{Term}
 use Rattle.modes.specs.declared.Sign.{Sign}
 use Rattle.modes.specs.Every.{Every}
 use Rattle.modes.proofs.Every.{every-implies, sum-same}
+use Rattle.modes.proofs.Sums.{sum-map}
 use Rattle.lent.specs.Rows.{Fit}
 use Rattle.products.specs.PhaseRule.{Outcome, gone, went, term}
 use Rattle.products.specs.Operators.{signed, adds, part, element}
 use Rattle.products.specs.Apply.{applyResultOf}
 use Rattle.products.specs.declared.ApplyResult.the-variants.{Applied}
 use Rattle.products.proofs.Applying.{swapped-restores}
+use Rattle.normal.proofs.Totals.{element-normal}
 use Rattle.adjoint.specs.Adjoint.{oddPairs, adjointTerm, adjointTerms}
-use Rattle.adjoint.proofs.Terms.{sum-adjoint}
+use Rattle.adjoint.proofs.Terms.{sum-adjoint, sum-same}
 
 -- ---- the swapped term restores the ket
 
@@ -81,4 +83,5 @@ part-adjoint bra ket t f = go _ _ refl refl
 
 pub element-adjoint : (bra ket : ℕ) (ts : List Term) → Every Fit ts → element bra ket (adjointTerms ts) ≡ element ket bra ts
 element-adjoint bra ket ts f =
-    sum-adjoint (part bra ket) ts ∙ sum-same (λ t. part bra ket (adjointTerm t)) (part ket bra) ts (every-implies ts (part-adjoint bra ket) f)
+    element-normal bra ket (map adjointTerm ts) ∙ sum-map (part bra ket) adjointTerm ts
+    ∙ sum-same (λ t. part bra ket (adjointTerm t)) (part ket bra) ts (every-implies ts (part-adjoint bra ket) f)

@@ -14,8 +14,8 @@ use Rattle.record.proofs.Numbers.{same-numbers, numbers-same}
 use Rattle.record.proofs.Accepted.{Accepted, refused}
 use Rattle.record.proofs.Inverse.{Small, encode-decode}
 use Rattle.adjoint.specs.Adjoint.{adjointBytes}
-use Rattle.adjoint.specs.Hermitian.{Paired, Tells, hermitianOf}
-use Rattle.adjoint.proofs.Among.{paired-same, same-paired}
+use Rattle.adjoint.specs.Hermitian.{AdjointsAmong, Tells, hermitianOf}
+use Rattle.adjoint.proofs.Among.{among-same, same-among}
 use Rattle.adjoint.proofs.Theorems.{bytes-terms}
 
 pub hermitian-refused : (l : List ℕ) (c : Checked) → c ≡ checkedOf 1 l → (c .refusal .number ≡ 0 → ⊥)
@@ -28,20 +28,20 @@ module _ (l : List ℕ) (c : Checked) (k : Accepted 1 l c) (small : Small l) whe
   number : (refusalOf 1 l) .number ≡ 0
   number = ap (λ r. r .number) (k .none)
 
-  pub same-bytes : Paired (termsOf l) (termsOf l) → adjointBytes l ≡ l
-  same-bytes p = ap (encode (modesOf l)) (paired-same (termsOf l) (k .canonical .ascending) p) ∙ encode-decode 1 l small number
+  pub same-bytes : AdjointsAmong (termsOf l) (termsOf l) → adjointBytes l ≡ l
+  same-bytes p = ap (encode (modesOf l)) (among-same (termsOf l) (k .canonical .ascending) (k .canonical .nonzero) p) ∙ encode-decode 1 l small number
 
-  pub bytes-paired : adjointBytes l ≡ l → Paired (termsOf l) (termsOf l)
-  bytes-paired e = same-paired (termsOf l) (sym (bytes-terms l number) ∙ ap termsOf e)
+  pub bytes-among : adjointBytes l ≡ l → AdjointsAmong (termsOf l) (termsOf l)
+  bytes-among e = same-among (termsOf l) (k .canonical .ascending) (k .canonical .nonzero) (sym (bytes-terms l number) ∙ ap termsOf e)
 
-  told : (b : Bool) → Tells b (Paired (termsOf l) (termsOf l)) → b ≡ sameNumbers (adjointBytes l) l
+  told : (b : Bool) → Tells b (AdjointsAmong (termsOf l) (termsOf l)) → b ≡ sameNumbers (adjointBytes l) l
   told true t = sym (rw (same-bytes (t .yes refl)) (numbers-same l))
   told false t = go (sameNumbers (adjointBytes l) l) refl
     where
       go : (b : Bool) → sameNumbers (adjointBytes l) l ≡ b → false ≡ b
-      go true e = absurd (t .no refl (bytes-paired (same-numbers (adjointBytes l) l e)))
+      go true e = absurd (t .no refl (bytes-among (same-numbers (adjointBytes l) l e)))
       go false e = refl
 
-  pub hermitian-found : (b : Bool) → Tells b (Paired (termsIn l (c .terms)) (termsIn l (c .terms))) → _≡_ {A = Tested} (record { refusal = none; holds = b }) (hermitianOf l)
+  pub hermitian-found : (b : Bool) → Tells b (AdjointsAmong (termsIn l (c .terms)) (termsIn l (c .terms))) → _≡_ {A = Tested} (record { refusal = none; holds = b }) (hermitianOf l)
   unfolding hermitianOf
   hermitian-found b t = rw (k .none, ← told b (rw (k .terms) at t))

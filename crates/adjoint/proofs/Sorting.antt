@@ -30,11 +30,13 @@ use Rattle.record.specs.Terms.{before, Above, Ascending, empty, above}
 use Rattle.record.specs.Numbers.{numbers}
 use Rattle.record.specs.Layout.{header, columns, encode, together, termsIn}
 use Rattle.record.specs.Canonical.{Nonzero, Canonical}
+use Rattle.record.specs.Coefficients.{coeffIn}
 use Rattle.record.proofs.Order.{Order, lower, level, order, ordered, above-trans}
 use Rattle.record.proofs.Reading.{length-terms, term-at}
 use Rattle.record.proofs.Inverse.{Small, length-header, length-encode, columns-read, count-read, terms-read, canonical-fit}
+use Rattle.normal.proofs.Normal.{normal-is}
 use Rattle.adjoint.specs.Adjoint.{Negatable, adjointTerm, adjointTerms}
-use Rattle.adjoint.proofs.Terms.{is-adjoint, same-size, still-nonzero, length-adjoint, negatable}
+use Rattle.adjoint.proofs.Terms.{same-size, still-nonzero, length-adjoint, negatable}
 use Rattle.adjoint.proofs.Writing.{none-at, every-drop, take-one-more}
 
 -- ---- the terms of a record are those at its columns
@@ -186,8 +188,8 @@ module _ (m n : ℕ) (ts : List Term) (size : length ts ≡ n) (k : Canonical m 
 
   pub sorted-terms : termsIn three n ≡ adjointTerms ts
   sorted-terms =
-      is-adjoint ts (termsIn three n) (k .ascending) (k .nonzero) ascends
-      (every-sorted Nonzero (every-map adjointTerm ts still-nonzero (k .nonzero))) sums
+      normal-is (termsIn three n) (map adjointTerm ts) ascends (every-sorted Nonzero (every-map adjointTerm ts still-nonzero (k .nonzero)))
+      (λ c a. sums (coeffIn c a))
 
   -- the front is the adjoint's record
   pub sorted-front : 32 + 24 * n ≤ length three → take (32 + 24 * n) three ≡ encode m (adjointTerms ts)
@@ -197,7 +199,7 @@ module _ (m n : ℕ) (ts : List Term) (size : length ts ≡ n) (k : Canonical m 
       ∙ take-at (header m (length (map adjointTerm ts))) (columns (map adjointTerm ts)) 32 (length-header m _) ∙ ap (header m) count in
       let body : take (24 * n) (drop 32 three) ≡ columns (adjointTerms ts) = sym (columns-read three small n room) ∙ ap columns sorted-terms in
       take-add 32 (24 * n) three ∙ ap₂ (λ (x y : List ℕ). x ++ y) head body
-      ∙ ap (λ (x : ℕ). header m x ++ columns (adjointTerms ts)) (sym (length-adjoint ts ∙ size))
+      ∙ ap (λ (x : ℕ). header m x ++ columns (adjointTerms ts)) (sym (length-adjoint m ts k ∙ size))
 
 put-front : (l bs : List ℕ) → put l 0 bs ≡ bs ++ drop (0 + length bs) l
 unfolding put

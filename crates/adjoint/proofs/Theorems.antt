@@ -1,22 +1,19 @@
 -- What `adjoint` leaves where it does not refuse: a record that is accepted, with transposed elements, and whose adjoint is the first record.
-use mathlib.Core.Path.{_≡_, refl, sym, ap, ap₂, _∙_}
-use mathlib.Core.Bool.{Bool, true, false, cond}
+use mathlib.Core.Path.{_≡_, ap, ap₂, _∙_}
 use mathlib.Core.List.{List}
-use Prim.Native.Nat.{ℕ, _+_, _*_}
-use native.Mathlib.Omega.{arith}
-use lib.Dec.{eqb, leb}
+use Prim.Native.Nat.{ℕ}
 use lib.ListN.{take}
-use lib.Seq.{take-at}
-use borrow.Author.Tests.{eqb-true, eqb-false}
 use Rattle.modes.specs.declared.Written.{Written}
-use Rattle.modes.specs.Answers.{refusal, none}
-use Rattle.lent.specs.Outputs.{Output, Gives, refusedOutput, filledOutput}
+use Rattle.modes.specs.Answers.{none}
+use Rattle.lent.specs.Outputs.{Gives}
 use Rattle.products.specs.Operators.{element}
 use Rattle.record.specs.Layout.{encode, modesOf, countOf, termsOf}
-use Rattle.record.specs.Refusals.{refusalOf}
+use Rattle.record.specs.Refusals.{orElse, refusalOf}
 use Rattle.record.specs.Canonical.{Canonical}
-use Rattle.record.proofs.Accepted.{accepted-canonical}
+use Rattle.record.specs.Outputs.{roomRefusal}
+use Rattle.record.proofs.Accepted.{neither, accepted-canonical}
 use Rattle.record.proofs.Inverse.{Small, canonical-fit, decode-modes, decode-terms, encode-accepted, encode-decode}
+use Rattle.record.proofs.Outputs.{output-fine, output-record}
 use Rattle.adjoint.specs.Adjoint.{adjointTerms, adjointBytes, adjointed}
 use Rattle.adjoint.proofs.Terms.{canonical-adjoint, terms-twice}
 use Rattle.adjoint.proofs.Elements.{element-adjoint}
@@ -49,21 +46,13 @@ pub record Left (l after : List ℕ) (r : Written) : Type 0 where
   pub bytes : take (r .len) after ≡ adjointBytes l
 
 pub left-by : (room : ℕ) (l after : List ℕ) (r : Written) → Gives (adjointed room l) r after → r .refusal .number ≡ 0 → Left l after r
-unfolding adjointed
-left-by room l after r g e = go (eqb ((refusalOf 1 l) .number) 0) (leb (32 + 24 * countOf l) room) refl g
-  where
-    number : (o : Output) → r ≡ o .answer → o .answer .refusal .number ≡ 0
-    number o p = ap (λ (w : Written). w .refusal .number) (sym p) ∙ e
-
-    go : (a b : Bool) → eqb ((refusalOf 1 l) .number) 0 ≡ a
-        → Gives (cond a (cond b (filledOutput room 0 (adjointBytes l)) (refusedOutput room (refusal 11 0 0))) (refusedOutput room (refusalOf 1 l))) r after → Left l after r
-    go true true q h =
-        record {
-          fine = eqb-true _ _ q;
-          bytes = ap₂ (λ (w : Written) (x : List ℕ). take (w .len) x) (h .answer) (h .bytes) ∙ take-at (adjointBytes l) _ _ refl;
-        }
-    go true false q h = let z : _≡_ {A = ℕ} 11 0 = number (refusedOutput room (refusal 11 0 0)) (h .answer) in absurd (omega arith)
-    go false b q h = absurd (eqb-false _ _ q (number (refusedOutput room (refusalOf 1 l)) (h .answer)))
+left-by room l after r g e =
+    let late = roomRefusal room (countOf l) in
+    let whole = orElse (refusalOf 1 l) late in
+    record {
+      fine = neither (refusalOf 1 l) late (output-fine room 0 whole (modesOf l) (adjointTerms (termsOf l)) r after g e) .0;
+      bytes = output-record room 0 whole (modesOf l) (adjointTerms (termsOf l)) r after g e;
+    }
 
 module _ (room : ℕ) (l after : List ℕ) (r : Written) (g : Gives (adjointed room l) r after) (e : r .refusal .number ≡ 0) where
   left : Left l after r

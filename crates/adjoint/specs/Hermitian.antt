@@ -21,9 +21,9 @@ abbrev pub Among : Term → List Term → Type 0
 Among t [] = ⊥
 Among t (u ∷ ts) = (u ≡ t) ⊎ Among t ts
 
--- every adjoint term of us is among ts
-abbrev pub Paired : List Term → List Term → Type 0
-Paired ts us = Every (λ u. Among (adjointTerm u) ts) us
+-- the adjoint of every term of us is among ts
+abbrev pub AdjointsAmong : List Term → List Term → Type 0
+AdjointsAmong ts us = Every (λ u. Among (adjointTerm u) ts) us
 
 -- b tells whether P holds
 pub record Tells (b : Bool) (P : Type 0) : Type 0 where

@@ -18,7 +18,7 @@ ghost use Rattle.record.specs.Terms.{Ascending};
 ghost use Rattle.record.specs.Layout.{columns, encode, termsIn};
 ghost use Rattle.record.specs.Canonical.{Canonical};
 ghost use Rattle.adjoint.specs.Adjoint.{Negatable, adjointTerm, adjointTerms, adjointed};
-ghost use Rattle.adjoint.specs.Hermitian.{Among, Paired, Tells, hermitianOf};
+ghost use Rattle.adjoint.specs.Hermitian.{Among, AdjointsAmong, Tells, hermitianOf};
 
 // The number of pairs of the word's modes.
 fn pairs_in(word: u64) -> u32
@@ -119,9 +119,9 @@ fn has_term(s: &[u8], n: usize, t: Term) -> bool
 }
 
 // Is the adjoint of every term one of the n terms?
-fn is_paired(s: &[u8], n: usize) -> bool
+fn has_adjoints(s: &[u8], n: usize) -> bool
     requires { ⌜ (32 + 24 * n ≤ length (now s)) × Ascending (termsIn (now s) n) × Every Negatable (termsIn (now s) n) ⌝ }
-    ensures { λ r. ⌜ Tells r (Paired (termsIn (now (s .entry)) n) (termsIn (now (s .entry)) n)) ⌝ }
+    ensures { λ r. ⌜ Tells r (AdjointsAmong (termsIn (now (s .entry)) n) (termsIn (now (s .entry)) n)) ⌝ }
 {
     let mut i = 0;
     while i < n {
@@ -148,7 +148,7 @@ pub fn is_hermitian(a: &[u8]) -> Tested
         };
     }
     let n = c.terms;
-    let holds = is_paired(a, n);
+    let holds = has_adjoints(a, n);
     Tested {
         refusal: Refusal::NONE,
         holds,

@@ -1,13 +1,11 @@
 -- The terms that differ, as the definition lists them and as the terms of the difference: both lists have the words at which the coefficients differ.
 use mathlib.Core.Path.{_≡_, refl, sym, ap, ap₂, _∙_}
-use mathlib.Core.Bool.{Bool, true, false, not, cond, _&&_, true≢false}
+use mathlib.Core.Bool.{Bool, true, false, not, cond, true≢false}
 use mathlib.Core.List.{List, [], _∷_, _++_, map}
 use mathlib.Core.Logic.{_⊎_, inl, inr}
 use Prim.Native.Nat.{ℕ}
-use lib.Dec.{eqb}
-use lib.IntN.{ℤ, pos, natAbs, _+ℤ_, _-ℤ_, +ℤ-idl, +ℤ-invr, -ℤ-+ℤ-cancel}
-use borrow.Author.Tests.{eq-eqb, ne-eqb, eqb-true, eqb-false}
-use Rattle.modes.specs.Sums.{sumOf}
+use lib.IntN.{ℤ, pos, natAbs, _+ℤ_, _-ℤ_}
+use borrow.Author.Tests.{eq-eqb, ne-eqb}
 use Rattle.modes.specs.declared.Term.{Term}
 use Rattle.modes.proofs.Bools.{and-l, and-r}
 use Rattle.modes.specs.Every.{Every, none, more}
@@ -16,8 +14,8 @@ use Rattle.record.specs.Terms.{Above, Ascending, empty, above}
 use Rattle.record.specs.Coefficients.{coeffOf}
 use Rattle.record.proofs.Coefficients.{earlier-words, own-coeff}
 use Rattle.record.proofs.Accepted.{abs-zero}
-use Rattle.lincomb.specs.Normal.{dropZeros}
 use Rattle.normal.specs.Normal.{dropZeros}
+use Rattle.normal.proofs.Words.{Some, Held, no-difference, same-difference, same-or-not, held, own-coeffs}
 use Rattle.normal.proofs.Totals.{coeff-drop}
 use Rattle.normal.proofs.Normal.{ascending-drop, nonzero-drop}
 use Rattle.lincomb.specs.Sums.{turn}
@@ -25,26 +23,11 @@ use Rattle.lincomb.specs.Merging.{merge}
 use Rattle.lincomb.proofs.Totals.{coeff-merge, coeff-turn}
 use Rattle.lincomb.proofs.Merging.{ascending-turn, ascending-merge}
 use Rattle.compare.specs.Comparison.{differs, those, differing}
-use Rattle.compare.proofs.Naming.{Some, Held, Lists}
+use Rattle.compare.proofs.Naming.{Lists}
 
 -- the words have not one coefficient in both lists
 abbrev pub Differ : List Term → List Term → ℕ → ℕ → Type 0
 Differ ts us c a = coeffOf c a ts ≡ coeffOf c a us → ⊥
-
--- ---- numbers that are the same
-
-no-difference : (x y : ℤ) → x -ℤ y ≡ pos 0 → x ≡ y
-no-difference x y e = sym (-ℤ-+ℤ-cancel x y) ∙ ap (λ (z : ℤ). z +ℤ y) e ∙ +ℤ-idl y
-
-same-difference : (x y : ℤ) → x ≡ y → x -ℤ y ≡ pos 0
-same-difference x y e = ap (λ (z : ℤ). z -ℤ y) e ∙ +ℤ-invr y
-
-pub same-or-not : (x y : ℤ) → (x ≡ y) ⊎ (x ≡ y → ⊥)
-same-or-not x y = go (eqb (natAbs (x -ℤ y)) 0) refl
-  where
-    go : (b : Bool) → eqb (natAbs (x -ℤ y)) 0 ≡ b → (x ≡ y) ⊎ (x ≡ y → ⊥)
-    go true q = inl (no-difference x y (abs-zero (x -ℤ y) (eqb-true _ _ q)))
-    go false q = inr (λ e. eqb-false _ _ q (ap natAbs (same-difference x y e)))
 
 -- ---- words that are held
 
@@ -54,16 +37,6 @@ some-more P [] us (inr s) = s
 some-more P (t ∷ ts) us (inl (inl p)) = inl p
 some-more P (t ∷ ts) us (inl (inr s)) = inr (some-more P ts us (inl s))
 some-more P (t ∷ ts) us (inr s) = inr (some-more P ts us (inr s))
-
--- where the coefficient is not zero the words are held
-held : (c a : ℕ) (ts : List Term) → (coeffOf c a ts ≡ pos 0 → ⊥) → Held c a ts
-unfolding sumOf
-held c a [] n = absurd (n refl)
-held c a (t ∷ ts) n = go (held c a ts) (eqb (t .ann) a && eqb (t .cre) c) refl n
-  where
-    go : ((coeffOf c a ts ≡ pos 0 → ⊥) → Held c a ts) → (b : Bool) → eqb (t .ann) a && eqb (t .cre) c ≡ b → (cond b (t .coeff) (pos 0) +ℤ coeffOf c a ts ≡ pos 0 → ⊥) → Held c a (t ∷ ts)
-    go rest true e m = inl (eqb-true _ _ (and-l (eqb (t .ann) a) (eqb (t .cre) c) e), eqb-true _ _ (and-r (eqb (t .ann) a) (eqb (t .cre) c) e))
-    go rest false e m = inr (rest (λ z. m (+ℤ-idl (coeffOf c a ts) ∙ z)))
 
 held-by-either : (c a : ℕ) (ts us : List Term) → Differ ts us c a → Held c a (ts ++ us)
 held-by-either c a ts us d = some-more _ ts us (go (same-or-not (coeffOf c a ts) (pos 0)))
@@ -115,17 +88,6 @@ module _ (ts us : List Term) where
       }
 
 -- ---- the terms of the difference
-
--- in an ascending list the coefficient at a term's words is the term's
-own-coeffs : (ts : List Term) → Ascending ts → Every (λ t. coeffOf (t .cre) (t .ann) ts ≡ t .coeff) ts
-unfolding sumOf
-own-coeffs [] empty = none
-own-coeffs (t ∷ ts) (above h s) = more (own-coeff t ts h) (go ts h (own-coeffs ts s))
-  where
-    go : (us : List Term) → Above t us → Every (λ u. coeffOf (u .cre) (u .ann) ts ≡ u .coeff) us → Every (λ u. coeffOf (u .cre) (u .ann) (t ∷ ts) ≡ u .coeff) us
-    go [] none none = none
-    go (u ∷ us) (more b bs) (more e es) =
-        more (ap (λ (z : ℤ). z +ℤ coeffOf (u .cre) (u .ann) ts) (earlier-words t u b) ∙ +ℤ-idl (coeffOf (u .cre) (u .ann) ts) ∙ e) (go us bs es)
 
 module _ (ts us : List Term) (s : Ascending ts) (r : Ascending us) where
   abbrev difference : List Term

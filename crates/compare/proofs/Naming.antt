@@ -2,7 +2,7 @@
 use mathlib.Core.Path.{_≡_, refl, sym, ap₂, _∙_}
 use mathlib.Core.Bool.{Bool, true, false, cond, true≢false}
 use mathlib.Core.List.{List, [], _∷_}
-use mathlib.Core.Logic.{_⊎_, inl, inr}
+use mathlib.Core.Logic.{inl, inr}
 use Prim.Native.Nat.{ℕ, _<_}
 use lib.IntN.{pos}
 use Rattle.modes.specs.Words.{bit}
@@ -10,17 +10,9 @@ use Rattle.modes.specs.Counts.{count}
 use Rattle.modes.specs.Answers.{none as unrefused}
 use Rattle.modes.specs.declared.Term.{Term}
 use Rattle.modes.specs.Every.{Every, none, more}
+use Rattle.normal.proofs.Words.{Held}
 use Rattle.compare.specs.Comparison.{ahead, foremost, named}
 use Rattle.compare.proofs.Ahead.{fewer, is-ahead, not-itself, ahead-words, Placed, first, alike, second, placed, behind, not-ahead}
-
--- what holds of some term of a list
-abbrev pub Some : (Term → Type 0) → List Term → Type 0
-Some P [] = ⊥
-Some P (t ∷ ts) = P t ⊎ Some P ts
-
--- a term of the list has these words
-abbrev pub Held : ℕ → ℕ → List Term → Type 0
-Held c a ts = Some (λ t. (t .ann ≡ a) × (t .cre ≡ c)) ts
 
 -- by their words, the terms are those at which D holds
 pub record Lists (D : ℕ → ℕ → Type 0) (ts : List Term) : Type 0 where

@@ -22,12 +22,13 @@ use Rattle.record.proofs.Accepted.{accepted-canonical, accepted-none}
 use Rattle.record.proofs.Inverse.{Small, same-bytes}
 use Rattle.record.proofs.Coefficients.{same-terms}
 use Rattle.record.proofs.SameElements.{none-outside, same-coefficient}
+use Rattle.normal.proofs.Words.{same-or-not}
 use Rattle.lincomb.specs.Results.{pairRefusal}
 use Rattle.lincomb.proofs.Results.{first-fine, second-fine, same-modes}
 use Rattle.compare.specs.Comparison.{differing, named, refusedComparison, comparedOf}
 use Rattle.compare.specs.declared.Compared.{Compared}
 use Rattle.compare.proofs.Naming.{Lists, none-named, named-differs, none-fewer}
-use Rattle.compare.proofs.Differing.{Differ, same-or-not, lists-differing}
+use Rattle.compare.proofs.Differing.{Differ, lists-differing}
 
 -- two accepted records on one number of modes are not refused
 named-unrefused : (ts : List Term) → (named ts) .refusal ≡ none

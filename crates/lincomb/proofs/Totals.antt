@@ -1,5 +1,5 @@
 -- What adds up over terms, as elements and coefficients do, adds up over two lists that are merged, and turns its sign with the terms.
-use mathlib.Core.Path.{_≡_, refl, sym, ap, ap₂, _∙_}
+use mathlib.Core.Path.{_≡_, refl, sym, ap, _∙_}
 use mathlib.Core.Bool.{Bool, true, false, cond, _&&_}
 use mathlib.Core.List.{List, [], _∷_, map}
 use Prim.Native.Nat.{ℕ}
@@ -7,14 +7,14 @@ use lib.Dec.{eqb}
 use lib.IntN.{ℤ, pos, _+ℤ_, +ℤ-idl, +ℤ-idr, +ℤ-assoc}
 use Rattle.modes.specs.Sums.{sumOf}
 use Rattle.modes.specs.declared.Term.{Term}
-use Rattle.modes.proofs.Sums.{exchange}
+use Rattle.modes.proofs.Sums.{exchange, sum-map}
 use Rattle.products.specs.PhaseRule.{Outcome, gone, went, term}
 use Rattle.products.specs.Operators.{signed, adds, part, element}
-use Rattle.products.proofs.Signs.{signed-zero, signed-add}
+use Rattle.products.proofs.Signs.{signed-zero}
 use Rattle.record.specs.Terms.{before}
 use Rattle.record.specs.Coefficients.{coeffIn, coeffOf}
 use Rattle.normal.specs.Normal.{join}
-use Rattle.normal.proofs.Totals.{alike-where-level, Additive, coeff-additive}
+use Rattle.normal.proofs.Totals.{alike-where-level, Additive, sum-signed, coeff-additive}
 use Rattle.lincomb.specs.Sums.{turn}
 use Rattle.lincomb.specs.Merging.{merge}
 
@@ -45,9 +45,7 @@ signed-twice false r z = refl
 
 pub sum-turn : (f : Term → ℤ) (minus : Bool) → ((t : Term) → f (turn minus t) ≡ signed minus (f t)) → (ts : List Term)
     → sumOf f (map (turn minus) ts) ≡ signed minus (sumOf f ts)
-unfolding sumOf
-sum-turn f minus h [] = sym (signed-zero minus)
-sum-turn f minus h (t ∷ ts) = ap₂ (λ (x y : ℤ). x +ℤ y) (h t) (sum-turn f minus h ts) ∙ sym (signed-add minus (f t) (sumOf f ts))
+sum-turn f minus h ts = sum-map f (turn minus) ts ∙ sum-signed (λ t. f (turn minus t)) f minus h ts
 
 where-signed : (b s : Bool) (z : ℤ) → cond b (signed s z) (pos 0) ≡ signed s (cond b z (pos 0))
 where-signed true s z = refl

@@ -66,6 +66,12 @@ module _ (f : Term → ℤ) (additive : Additive f) where
   pub sum-normal : (ts : List Term) → sumOf f (normal ts) ≡ sumOf f ts
   sum-normal ts = sum-drop (collect ts) ∙ sum-collect ts
 
+-- a sum whose parts have one sign
+pub sum-signed : (f g : Term → ℤ) (s : Bool) → ((t : Term) → f t ≡ signed s (g t)) → (ts : List Term) → sumOf f ts ≡ signed s (sumOf g ts)
+unfolding sumOf
+sum-signed f g s h [] = sym (signed-zero s)
+sum-signed f g s h (t ∷ ts) = ap₂ (λ (x y : ℤ). x +ℤ y) (h t) (sum-signed f g s h ts) ∙ sym (signed-add s (g t) (sumOf g ts))
+
 -- a value that is taken where a test holds, and is zero elsewhere
 where-add : (b : Bool) (x y : ℤ) → cond b (x +ℤ y) (pos 0) ≡ cond b x (pos 0) +ℤ cond b y (pos 0)
 where-add true x y = refl

@@ -13,15 +13,15 @@ check-requires c κs = search needs
 returns : tie.Need-returns
 returns c = hermitian-refused _ _ (c .before .before .before .check .ensures) (c .before .if1 .taken)
 
-is-paired-requires : tie.Need-is-paired-requires
-is-paired-requires c κs =
+has-adjoints-requires : tie.Need-has-adjoints-requires
+has-adjoints-requires c κs =
     let k = accepted 1 _ _ (c .before .before .check .ensures) (c .if1 .left) in
     let r = readable 1 _ _ k in
     (r .0, r .1, negatable _ _ (canonical 0 _ _ k))
 
 returns-2 : tie.Need-returns-2
 returns-2 c =
-    hermitian-found _ _ (accepted 1 _ _ (c .before .before .before .check .ensures) (c .before .if1 .left)) (λ k. c .before .before .before .before .shared-slice-known .given k .fits) _ (c .is-paired .ensures)
+    hermitian-found _ _ (accepted 1 _ _ (c .before .before .before .check .ensures) (c .before .if1 .left)) (λ k. c .before .before .before .before .shared-slice-known .given k .fits) _ (c .has-adjoints .ensures)
 
 pub is-hermitian-spec : {M : Type 1} → statement M
-is-hermitian-spec = tie.close (tie.spec check-requires returns is-paired-requires returns-2)
+is-hermitian-spec = tie.close (tie.spec check-requires returns has-adjoints-requires returns-2)
