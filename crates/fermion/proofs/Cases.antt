@@ -17,11 +17,10 @@ use Rattle.record.specs.Layout.{header, column, columns, together, termsIn, lai
 use Rattle.modes.specs.Refusals.{orElse}
 use Rattle.modes.specs.Spaces.{inside}
 use Rattle.record.specs.Refusals.{termRefusal, termsRefusal, refusalOf}
-use Rattle.lincomb.specs.Normal.{join, insert, collect, dropZeros}
 use Rattle.normal.specs.Normal.{join, insert, collect, dropZeros}
-use Rattle.lincomb.specs.Results.{pairRefusal, resultRefusal, recordOutput}
-use Rattle.pairs.specs.Products.{pairRows, allBranches, rowsWith, allRows, branchesWith}
+use Rattle.lincomb.specs.Results.{pairRefusal, resultRefusal}
 use Rattle.record.specs.Outputs.{recordOutput}
+use Rattle.pairs.specs.Products.{pairRows, allBranches, rowsWith, allRows, branchesWith}
 use Rattle.multiply.specs.Answers.{weightRefusal, workRefusal}
 use Rattle.fermion.specs.Cases.{cases, AllHold}
 

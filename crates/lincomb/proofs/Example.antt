@@ -11,9 +11,8 @@ use Rattle.record.specs.Layout.{header, column, columns, encode, together, term
 use Rattle.modes.specs.Refusals.{orElse}
 use Rattle.modes.specs.Spaces.{inside}
 use Rattle.record.specs.Refusals.{termRefusal, termsRefusal, refusalOf}
-use Rattle.lincomb.specs.Normal.{join, insert, collect, dropZeros}
-use Rattle.record.specs.Outputs.{recordOutput}
 use Rattle.normal.specs.Normal.{join, insert, collect, dropZeros}
+use Rattle.record.specs.Outputs.{recordOutput}
 use Rattle.lincomb.specs.Results.{pairRefusal, resultRefusal}
 use Rattle.lincomb.specs.Sums.{added, subtracted}
 

@@ -27,7 +27,7 @@ use Rattle.modes.proofs.Refusals.{or-first, or-second, neither}
 use Rattle.record.proofs.Accepted.{accepted-laid, accepted-canonical, accepted-none, Accepted, accepted, refused}
 use Rattle.record.proofs.Columns.{record-written}
 use Rattle.record.proofs.Inverse.{length-encode, decode-modes, decode-terms, encode-accepted}
-use Rattle.lincomb.specs.Results.{pairRefusal, resultRefusal, recordOutput, resultOf, shut, standing, openedOf}
+use Rattle.lincomb.specs.Results.{pairRefusal, resultRefusal, resultOf, shut, standing, openedOf}
 use Rattle.record.proofs.Outputs.{bound-kept, output-earlier, output-late, output-filled, output-fine, output-accepted, output-modes, output-terms}
 use Rattle.lincomb.specs.Merging.{Sound}
 use Rattle.lincomb.specs.Tallies.{Tallied}

@@ -18,7 +18,6 @@ use Rattle.record.specs.Layout.{modesOf, termsOf, termsIn}
 use Rattle.record.specs.Coefficients.{coeffOf}
 use Rattle.modes.specs.Refusals.{orElse}
 use Rattle.modes.proofs.Refusals.{or-first, or-second}
-use Rattle.lincomb.specs.Normal.{normal}
 use Rattle.normal.specs.Normal.{normal}
 use Rattle.normal.proofs.Normal.{normal-is}
 use Rattle.lincomb.specs.Results.{pairRefusal, resultOf, openedOf}

@@ -23,7 +23,6 @@ use Rattle.record.specs.Refusals.{refusalOf}
 use Rattle.record.specs.Canonical.{Inside, Canonical}
 use Rattle.modes.proofs.Refusals.{neither}
 use Rattle.record.proofs.Accepted.{accepted-canonical}
-use Rattle.lincomb.specs.Normal.{normal}
 use Rattle.normal.specs.Normal.{normal}
 use Rattle.normal.proofs.Totals.{element-normal}
 use Rattle.normal.proofs.Normal.{inside-joins, every-normal, normal-ascending, normal-nonzero}

@@ -12,7 +12,6 @@ use Rattle.lent.specs.Outputs.{Output, Gives}
 use Rattle.record.specs.Terms.{weight}
 use Rattle.record.specs.Layout.{modesOf, termsOf}
 use Rattle.modes.specs.Refusals.{need, orElse}
-use Rattle.lincomb.specs.Normal.{normal}
 use Rattle.normal.specs.Normal.{normal}
 use Rattle.lincomb.specs.Results.{pairRefusal, resultOf}
 use Rattle.pairs.specs.Products.{allRows, allBranches}

@@ -8,7 +8,7 @@ use lib.Dec.{eqb}
 use lib.IntN.{natAbs}
 use lib.ListN.{length}
 use Rattle.modes.specs.declared.Term.{Term}
-use Rattle.lent.proofs.SignedNumbers.{abs-sum}
+use Rattle.integers.proofs.SignedNumbers.{abs-sum}
 use Rattle.record.specs.Terms.{before, weight}
 use Rattle.normal.specs.Normal.{alike, join, insert, collect, dropZeros, normal}
 

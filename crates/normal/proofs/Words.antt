@@ -10,7 +10,7 @@ use borrow.Author.Tests.{eqb-true, eqb-false}
 use Rattle.modes.specs.Sums.{sumOf}
 use Rattle.modes.specs.declared.Term.{Term}
 use Rattle.modes.proofs.Bools.{and-l, and-r}
-use Rattle.lent.specs.Every.{Every, none, more}
+use Rattle.modes.specs.Every.{Every, none, more}
 use Rattle.record.specs.Terms.{Above, Ascending, empty, above}
 use Rattle.record.specs.Coefficients.{coeffOf}
 use Rattle.record.proofs.Accepted.{abs-zero}

@@ -20,7 +20,7 @@ use Rattle.record.specs.Refusals.{termRefusal, termsRefusal, refusalOf}
 use Rattle.record.proofs.Header.{laid}
 use Rattle.record.proofs.Reading.{length-terms}
 use Rattle.modes.proofs.Refusals.{or-first}
-use Rattle.lincomb.specs.Results.{pairRefusal, resultRefusal, recordOutput}
+use Rattle.lincomb.specs.Results.{pairRefusal, resultRefusal}
 use Rattle.record.specs.Outputs.{recordOutput}
 use Rattle.multiply.specs.Answers.{weightRefusal, workRefusal, commutatorOf}
 use Rattle.stream.specs.Lines.{refusedLine}

@@ -20,7 +20,6 @@ use Rattle.modes.specs.Refusals.{orElse}
 use Rattle.record.specs.Refusals.{refusalOf}
 use Rattle.record.proofs.Header.{Laid, laid}
 use Rattle.modes.proofs.Refusals.{or-first, or-second}
-use Rattle.lincomb.specs.Normal.{normal}
 use Rattle.normal.specs.Normal.{normal}
 use Rattle.lincomb.specs.Results.{pairRefusal}
 use Rattle.lincomb.proofs.Results.{refused-earlier}
