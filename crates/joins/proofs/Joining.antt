@@ -13,9 +13,9 @@ use Rattle.lent.proofs.RowLaws.{rows-more}
 use Rattle.integers.proofs.SignedNumbers.{sum-fits}
 use Rattle.rows.specs.Order.{key, keyOf}
 use Rattle.products.specs.Product.{Other}
-use Rattle.record.specs.Terms.{empty}
 use Rattle.record.specs.Coefficients.{coeffOf}
-use Rattle.normal.specs.Normal.{join}
+use Rattle.normal.specs.Normal.{join, collect, dropZeros}
+use Rattle.normal.proofs.Normal.{normal-is}
 use Rattle.joins.specs.KeyWeights.{keyWeight, Light}
 use Rattle.joins.specs.Collected.{Collected}
 use Rattle.joins.specs.Steps.{InOrder, Closed, Met, joined, opened}
@@ -103,16 +103,8 @@ pub place-room : (n i : ℕ) (l m : List ℕ) (p : ℕ) (x : Term) → Joining n
 place-room n i l m p x s h = rw (s .len) (omega (arith, s .under, s .to))
 
 pub joined-none : (n : ℕ) (l : List ℕ) → n ≡ 0 → Collected n l l 0
-unfolding rowsAt
-joined-none n l e = record {
-  count = omega arith;
-  len = refl;
-  past = refl;
-  ascending = empty;
-  nonzero = none;
-  fit = none;
-  coeff = λ c a. ap (λ (k : ℕ). coeffOf c a (rowsAt l 0 k)) (sym e);
-}
+unfolding rowsAt collect dropZeros
+joined-none n l e = record { count = omega arith; len = refl; past = refl; rows = rw e; fit = none }
 
 pub joined-all : (n i : ℕ) (l m m2 : List ℕ) (p k : ℕ) (x : Term) → Joining n i l m p x → n ≤ i → Closed p x m m2 k → Collected n l m2 k
 joined-all n i l m m2 p k x s h c =
@@ -122,8 +114,6 @@ joined-all n i l m m2 p k x s h c =
       count = omega (arith, s .under, c .count);
       len = c .len ∙ s .len;
       past = same-from m m2 (24 * p + 24) (24 * n) (omega (arith, s .under)) (c .ahead) ∙ same-from l m (24 * i) (24 * n) (omega arith) (s .ahead);
-      ascending = d .ascending;
-      nonzero = d .nonzero;
+      rows = normal-is (rowsAt m2 0 k) (rowsAt l 0 n) (d .ascending) (d .nonzero) (λ c a. d .coeff c a ∙ ap (λ (j : ℕ). coeffOf c a (rowsAt l 0 j)) e);
       fit = d .fit;
-      coeff = λ a b. d .coeff a b ∙ ap (λ (j : ℕ). coeffOf a b (rowsAt l 0 j)) e;
     }

@@ -18,6 +18,7 @@ use Rattle.rows.specs.Sorted.{Sorted}
 use Rattle.rows.proofs.Layouts.{rows-apart, term-row, terms-rows}
 use Rattle.rows.proofs.SortedTerms.{sum-kept, sorted-ascending, rows-around}
 use Rattle.record.specs.Coefficients.{coeffIn, coeffOf}
+use Rattle.normal.proofs.Normal.{normal-same}
 use Rattle.joins.specs.KeyWeights.{keyWeight, Light}
 use Rattle.joins.specs.Collected.{Collected}
 use Rattle.joins.specs.Steps.{InOrder}
@@ -64,8 +65,6 @@ module _ (n : ℕ) (l m : List ℕ) (places : Places) (front : places ≡ rowPla
     count = c .count;
     len = c .len ∙ in-rows .kept .len;
     past = c .past ∙ same-from l m (0 + 24 * n) (24 * n) (omega arith) (rows-around 0 n l m in-rows .1);
-    ascending = c .ascending;
-    nonzero = c .nonzero;
+    rows = c .rows ∙ normal-same (rowsAt m 0 n) (rowsAt l 0 n) sorted-coeff;
     fit = c .fit;
-    coeff = λ a b. c .coeff a b ∙ sorted-coeff a b;
   }

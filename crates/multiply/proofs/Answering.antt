@@ -19,7 +19,7 @@ use Rattle.record.specs.Coefficients.{coeffOf}
 use Rattle.modes.specs.Refusals.{orElse}
 use Rattle.modes.proofs.Refusals.{or-first, or-second}
 use Rattle.normal.specs.Normal.{normal}
-use Rattle.normal.proofs.Normal.{normal-is}
+use Rattle.normal.proofs.Normal.{normal-same}
 use Rattle.lincomb.specs.Results.{pairRefusal, resultOf, openedOf}
 use Rattle.lincomb.specs.declared.Opened.{Opened}
 use Rattle.lincomb.proofs.Results.{Opens, opens, shuts, sound, refused-earlier}
@@ -128,5 +128,5 @@ module _ (both minus : Bool) (a b : List ℕ) (work room : ℕ) (p : Opened) (ep
                 → resultOf room (s .held / 24) none (p .modes) (rowsAt m 0 n) ≡ productAnswer both minus work room a b
             delivered m n c =
                 let joined : rowsAt m 0 n ≡ normal rows =
-                normal-is (rowsAt m 0 n) rows (c .ascending) (c .nonzero) (λ x y. c .coeff x y ∙ ap (λ (i : ℕ). coeffOf x y (rowsAt l 0 i)) used-is ∙ full .rows .coeff x y) in
+                c .rows ∙ normal-same (rowsAt l 0 (s .used / 24)) rows (λ x y. ap (λ (i : ℕ). coeffOf x y (rowsAt l 0 i)) used-is ∙ full .rows .coeff x y) in
                 λ i. resultOf room (held-is i) (sym none-early i) (ready .modes i) (joined i)

@@ -113,9 +113,10 @@ pub normal-is : (us ts : List Term) → Ascending us → Every Nonzero us → ((
 normal-is us ts s n e =
     same-terms us (normal ts) s (normal-ascending ts) n (normal-nonzero ts) (λ c a. e c a ∙ sym (coeff-normal c a ts))
 
--- lists with the same coefficients have the same elements
+-- lists with the same coefficients have one normal form
+pub normal-same : (ts us : List Term) → ((c a : ℕ) → coeffOf c a ts ≡ coeffOf c a us) → normal ts ≡ normal us
+normal-same ts us e = normal-is (normal ts) us (normal-ascending ts) (normal-nonzero ts) (λ c a. coeff-normal c a ts ∙ e c a)
+
+-- and the same elements
 pub coefficients-decide : (bra ket : ℕ) (ts us : List Term) → ((c a : ℕ) → coeffOf c a ts ≡ coeffOf c a us) → element bra ket ts ≡ element bra ket us
-coefficients-decide bra ket ts us e =
-    sym (element-normal bra ket ts)
-    ∙ ap (element bra ket) (normal-is (normal ts) us (normal-ascending ts) (normal-nonzero ts) (λ c a. coeff-normal c a ts ∙ e c a))
-    ∙ element-normal bra ket us
+coefficients-decide bra ket ts us e = sym (element-normal bra ket ts) ∙ ap (element bra ket) (normal-same ts us e) ∙ element-normal bra ket us
