@@ -1,8 +1,7 @@
 -- What the sort leaves of the adjoint terms in their columns is the adjoint's record.
 use mathlib.Core.Path.{_≡_, refl, sym, ap, ap₂, _∙_}
-use mathlib.Core.Bool.{true}
+use mathlib.Core.Bool.{Bool, true, false}
 use mathlib.Core.List.{List, [], _∷_, _++_, map}
-use mathlib.Core.Logic.{_⊎_, inl, inr}
 use Prim.Native.Nat.{ℕ, zero, suc, _+_, _*_, _-_, _^_, _≤_, _<_}
 use native.Mathlib.Omega.{arith}
 use native.Mathlib.Nat.{mul-suc}
@@ -19,25 +18,25 @@ use Rattle.integers.proofs.SignedNumbers.{abs-fits}
 use Rattle.lent.proofs.Puts.{length-put, put-join}
 use Rattle.rows.specs.Terms.{at, upTo}
 use Rattle.rows.specs.Places.{columnPlaces, termIn, termsPlaced}
-use Rattle.rows.specs.Order.{key, Distinct}
+use Rattle.rows.specs.Order.{key}
 use Rattle.modes.specs.Sums.{sumOf}
 use Rattle.rows.specs.Sorted.{Sorted}
-use Rattle.rows.proofs.Keys.{key-words, key-less}
-use Rattle.rows.proofs.Choices.{apart-or}
+use Rattle.rows.proofs.Keys.{key-low, key-high}
 use Rattle.rows.proofs.UpTo.{every-at}
-use Rattle.rows.proofs.SortedTerms.{sum-kept, every-kept, sorted-strict, columns-around}
-use Rattle.record.specs.Terms.{before, Above, Ascending, empty, above}
+use Rattle.rows.proofs.SortedTerms.{sum-kept, every-kept, sorted-ascending, columns-around}
+use Rattle.record.specs.Terms.{before, Ascending}
 use Rattle.record.specs.Numbers.{numbers}
 use Rattle.record.specs.Layout.{header, columns, encode, together, termsIn}
 use Rattle.record.specs.Canonical.{Nonzero, Canonical}
 use Rattle.record.specs.Coefficients.{coeffIn}
-use Rattle.record.proofs.Order.{Order, lower, level, order, ordered, above-trans}
+use Rattle.record.proofs.Order.{Order, lower, level, order}
 use Rattle.record.proofs.Reading.{length-terms, term-at}
 use Rattle.record.proofs.Inverse.{Small, length-header, length-encode, columns-read, count-read, terms-read, canonical-fit}
-use Rattle.normal.proofs.Normal.{normal-is}
+use Rattle.normal.proofs.Normal.{normal-is, normal-same}
+use Rattle.normal.proofs.Sizes.{Rises, nothing, single, onto, rises-ascending}
 use Rattle.adjoint.specs.Adjoint.{Negatable, adjointTerm, adjointTerms}
 use Rattle.adjoint.proofs.Terms.{same-size, still-nonzero, length-adjoint, negatable}
-use Rattle.adjoint.proofs.Writing.{none-at, every-drop, take-one-more}
+use Rattle.adjoint.proofs.Writing.{take-one-more}
 
 -- ---- the terms of a record are those at its columns
 
@@ -77,50 +76,22 @@ at-drop : (ts : List Term) (i : ℕ) → i < length ts → drop i ts ≡ at ts i
 unfolding at
 at-drop ts i h = drop-cons ts i _ h
 
-earlier-before : (ts us vs : List Term) (t u : Term) (i j : ℕ) → Ascending ts → i < j → drop i ts ≡ t ∷ us → drop j ts ≡ u ∷ vs → before t u ≡ true
-earlier-before [] us vs t u i j empty h e f = absurd (none-at i t us e)
-earlier-before (x ∷ ts) us vs t u i zero (above a s) h e f = absurd (omega arith)
-earlier-before (x ∷ ts) us vs t u zero (suc j) (above a s) h e f = let w : x ≡ t = cc in rw w at (every-drop ts vs u j a f)
-earlier-before (x ∷ ts) us vs t u (suc i) (suc j) (above a s) h e f = earlier-before ts us vs t u i j s (omega arith) e f
-
-step-above : (t : Term) (ts : List Term) → (0 < length ts → before t (at ts 0) ≡ true) → Ascending ts → Above t ts
+rises-of : (ts : List Term) → ((k : ℕ) → suc k < length ts → before (at ts (suc k)) (at ts k) ≡ false) → Rises ts
 unfolding at
-step-above t [] h empty = none
-step-above t (u ∷ ts) h (above a s) = let b = h (omega arith) in more b (above-trans t u ts b a)
+rises-of [] h = nothing
+rises-of (t ∷ []) h = single
+rises-of (t ∷ u ∷ ts) h = onto (h 0 (omega arith)) (rises-of (u ∷ ts) (λ k b. h (suc k) (omega arith)))
 
-ascending-of : (ts : List Term) → ((k : ℕ) → suc k < length ts → before (at ts k) (at ts (suc k)) ≡ true) → Ascending ts
-unfolding at
-ascending-of [] h = empty
-ascending-of (t ∷ ts) h =
-    let rest = ascending-of ts (λ k b. h (suc k) (omega arith)) in above (step-above t ts (λ b. h 0 (omega arith)) rest) rest
-
-key-before : (t u : Term) → Fit t → Fit u → key t < key u → before t u ≡ true
-key-before t u f g h = ordered t u (go (key-less (t .ann) (t .cre) (u .ann) (u .cre) (f .cre) (g .cre) h))
+key-level : (t u : Term) → Fit u → key t ≤ key u → before u t ≡ false
+key-level t u g h = go (before u t) refl
   where
-    go : (t .ann < u .ann) ⊎ ((t .ann ≡ u .ann) × (t .cre < u .cre)) → Order t u
-    go (inl k) = lower k
-    go (inr k) = level (k .0) (k .1)
+    by : Order u t → ⊥
+    by (lower l) = let k = key-high (u .ann) (u .cre) (t .ann) (t .cre) l (g .cre) in omega arith
+    by (level e l) = let k = key-low (u .ann) (u .cre) (t .ann) (t .cre) e l in omega arith
 
--- the adjoint terms of an ascending list have distinct keys
-adjoint-apart : (t u : Term) → before t u ≡ true → Fit t → Fit u → key (adjointTerm t) ≡ key (adjointTerm u) → ⊥
-unfolding adjointTerm
-adjoint-apart t u e f g q = go (key-words (t .cre) (t .ann) (u .cre) (u .ann) (f .ann) (g .ann) q) (order t u e)
-  where
-    go : (t .cre ≡ u .cre) × (t .ann ≡ u .ann) → Order t u → ⊥
-    go k (lower h) = omega (arith, k .1)
-    go k (level r h) = omega (arith, k .0)
-
-adjoint-distinct : (ts : List Term) (n : ℕ) (f : ℕ → Term) → length ts ≡ n → Ascending ts → Every Fit ts → ((i : ℕ) → i < n → f i ≡ adjointTerm (at ts i)) → Distinct n f
-adjoint-distinct ts n f size s fit is = record { apart = λ i j b c ne e. apart i j b c (apart-or i j ne) (sym (ap key (is i b)) ∙ e ∙ ap key (is j c)) }
-  where
-    one : (i j : ℕ) → i < n → j < n → i < j → key (adjointTerm (at ts i)) ≡ key (adjointTerm (at ts j)) → ⊥
-    one i j b c h =
-        adjoint-apart (at ts i) (at ts j) (earlier-before ts _ _ _ _ i j s h (at-drop ts i (omega arith)) (at-drop ts j (omega arith)))
-        (every-at Fit ts fit i (omega arith)) (every-at Fit ts fit j (omega arith))
-
-    apart : (i j : ℕ) → i < n → j < n → (i < j) ⊎ (j < i) → key (adjointTerm (at ts i)) ≡ key (adjointTerm (at ts j)) → ⊥
-    apart i j b c (inl h) e = one i j b c h e
-    apart i j b c (inr h) e = one j i c b h (sym e)
+    go : (b : Bool) → before u t ≡ b → b ≡ false
+    go true e = absurd (by (order u t e))
+    go false e = refl
 
 -- ---- the adjoint terms fit their bytes
 
@@ -130,12 +101,6 @@ still-fit t f h = record { ann = f .cre; cre = f .ann; coeff = abs-fits _ (omega
 
 fit-adjoint : (ts : List Term) → Every Fit ts → Every Negatable ts → Every Fit (map adjointTerm ts)
 fit-adjoint ts f h = every-map adjointTerm ts (λ t k. still-fit t (k .0) (k .1)) (every-both ts f h)
-
-at-map : (ts : List Term) (i : ℕ) → i < length ts → at (map adjointTerm ts) i ≡ adjointTerm (at ts i)
-unfolding at
-at-map [] i h = absurd (omega arith)
-at-map (t ∷ ts) zero h = refl
-at-map (t ∷ ts) (suc i) h = at-map ts i (omega arith)
 
 at-term : (l : List ℕ) (n i : ℕ) → i < n → termIn (columnPlaces n) l i ≡ at (termsIn l n) i
 unfolding termIn
@@ -170,21 +135,22 @@ module _ (m n : ℕ) (ts : List Term) (size : length ts ≡ n) (k : Canonical m 
   every-sorted : (P : Term → Type 0) → Every P (map adjointTerm ts) → Every P (termsIn three n)
   every-sorted P h = rw (at-columns three n) at (every-kept s P (rw (at-columns two n, unsorted) h))
 
-  distinct : Distinct n (termIn (columnPlaces n) two)
-  distinct =
-      adjoint-distinct ts n (termIn (columnPlaces n) two) size (k .ascending) (canonical-fit m ts k)
-      (λ i b. at-term two n i b ∙ ap (λ (us : List Term). at us i) unsorted ∙ at-map ts i (omega (arith, size)))
-
-  ascends : Ascending (termsIn three n)
-  ascends =
+  rises : Rises (termsIn three n)
+  rises =
       let fit = every-sorted Fit fits in
       let size3 = length-terms three n in
-      ascending-of (termsIn three n) (λ i b.
+      rises-of (termsIn three n) (λ i b.
       let e : i + 1 ≡ suc i = omega arith in
       let low : i < n = omega arith in
       let high : suc i < n = omega arith in
-      let strict = rw (e, at-term three n i low, at-term three n (suc i) high) at (sorted-strict s distinct .step i (omega arith)) in
-      key-before (at (termsIn three n) i) (at (termsIn three n) (suc i)) (every-at Fit _ fit i (omega arith)) (every-at Fit _ fit (suc i) b) strict)
+      key-level (at (termsIn three n) i) (at (termsIn three n) (suc i)) (every-at Fit _ fit (suc i) b)
+      (rw (e, at-term three n i low, at-term three n (suc i) high) at (sorted-ascending s i (omega arith))))
+
+  -- the normal form has as many terms, so no two have the same words
+  ascends : Ascending (termsIn three n)
+  ascends =
+      let same = normal-same (termsIn three n) (map adjointTerm ts) (λ c a. sums (coeffIn c a)) in
+      rises-ascending (termsIn three n) rises (omega (arith, length-terms three n, ap length same, length-adjoint m ts k, size))
 
   pub sorted-terms : termsIn three n ≡ adjointTerms ts
   sorted-terms =

@@ -1,16 +1,20 @@
--- The normal form has no more terms than the list, and no more weight.
-use mathlib.Core.Path.{_≡_, refl}
-use mathlib.Core.Bool.{Bool, true, false, cond}
+-- The normal form has no more terms than the list, and no more weight; a list in order with no fewer ascends.
+use mathlib.Core.Path.{_≡_, refl, sym, _∙_}
+use mathlib.Core.Bool.{Bool, true, false, cond, true≢false}
 use mathlib.Core.List.{List, [], _∷_}
-use Prim.Native.Nat.{ℕ, _+_, _≤_}
+use Prim.Native.Nat.{ℕ, suc, _+_, _≤_}
 use native.Mathlib.Omega.{arith}
 use lib.Dec.{eqb}
 use lib.IntN.{natAbs}
 use lib.ListN.{length}
 use Rattle.modes.specs.declared.Term.{Term}
 use Rattle.integers.proofs.SignedNumbers.{abs-sum}
-use Rattle.record.specs.Terms.{before, weight}
+use Rattle.record.specs.Terms.{before, weight, Ascending, empty, above}
+use Rattle.modes.specs.Every.{none, more}
+use Rattle.record.proofs.Order.{above-trans}
 use Rattle.normal.specs.Normal.{alike, join, insert, collect, dropZeros, normal}
+use Rattle.normal.proofs.Totals.{alike-where-level}
+use Rattle.normal.proofs.Drops.{drop-weight}
 
 -- a total of what each term counts, where two terms joined count no more than both
 module _ (g : Term → ℕ) (total : List Term → ℕ) (cons : (t : Term) (ts : List Term) → total (t ∷ ts) ≡ g t + total ts)
@@ -39,12 +43,50 @@ module _ (g : Term → ℕ) (total : List Term → ℕ) (cons : (t : Term) (ts :
       go ih true = omega (arith, cons t ts)
       go ih false = omega (arith, cons t ts, cons t (dropZeros ts))
 
-  normal-most : (ts : List Term) → total (normal ts) ≤ total ts
-  normal-most ts = omega (arith, drop-most (collect ts), collect-most ts)
+length-insert : (t : Term) (ts : List Term) → length (insert t ts) ≤ 1 + length ts
+length-insert = insert-most (λ _. 1) length (λ t ts. omega arith) (λ t u. omega arith)
+
+length-collect : (ts : List Term) → length (collect ts) ≤ length ts
+length-collect = collect-most (λ _. 1) length (λ t ts. omega arith) (λ t u. omega arith)
+
+length-drop : (ts : List Term) → length (dropZeros ts) ≤ length ts
+length-drop = drop-most (λ _. 1) length (λ t ts. omega arith) (λ t u. omega arith)
 
 pub length-normal : (ts : List Term) → length (normal ts) ≤ length ts
-length-normal = normal-most (λ _. 1) length (λ t ts. omega arith) (λ t u. omega arith)
+length-normal ts = omega (arith, length-drop (collect ts), length-collect ts)
 
 pub weight-normal : (ts : List Term) → weight (normal ts) ≤ weight ts
 unfolding weight join
-weight-normal = normal-most (λ t. natAbs (t .coeff)) weight (λ t ts. refl) (λ t u. abs-sum (t .coeff) (u .coeff))
+weight-normal ts =
+    rw (drop-weight (collect ts)) (collect-most (λ t. natAbs (t .coeff)) weight (λ t ts. refl) (λ t u. abs-sum (t .coeff) (u .coeff)) ts)
+
+-- ---- terms in order, of which none is joined to another
+
+-- no term stands before the one that it follows
+pub data Rises : List Term → Type 0 where
+  nothing : Rises []
+  single : {t : Term} → Rises (t ∷ [])
+  onto : {t u : Term} {ts : List Term} → before u t ≡ false → Rises (u ∷ ts) → Rises (t ∷ u ∷ ts)
+
+not-joined : (t u : Term) (ts cs : List Term) → before u t ≡ false → Ascending (u ∷ ts) → cs ≡ u ∷ ts → length (insert t cs) ≡ suc (suc (length ts))
+    → Ascending (t ∷ u ∷ ts) × (insert t cs ≡ t ∷ u ∷ ts)
+unfolding insert
+not-joined t u ts cs h (above a s) e l = rw e (go (alike t u) (before t u) refl refl (rw e at l))
+  where
+    go : (x y : Bool) → alike t u ≡ x → before t u ≡ y → length (cond x (join t u ∷ ts) (cond y (t ∷ u ∷ ts) (u ∷ insert t ts))) ≡ suc (suc (length ts))
+        → Ascending (t ∷ u ∷ ts) × (cond x (join t u ∷ ts) (cond y (t ∷ u ∷ ts) (u ∷ insert t ts)) ≡ t ∷ u ∷ ts)
+    go true y p q k = absurd (omega arith)
+    go false true p q k = (above (more q (above-trans t u ts q a)) (above a s), refl)
+    go false false p q k = absurd (true≢false (sym (alike-where-level t u q h) ∙ p))
+
+none-joined : (ts : List Term) → Rises ts → length (collect ts) ≡ length ts → Ascending ts × (collect ts ≡ ts)
+unfolding collect insert
+none-joined [] nothing e = (empty, refl)
+none-joined (t ∷ []) single e = (above none empty, refl)
+none-joined (t ∷ u ∷ ts) (onto h r) e =
+    let rest = none-joined (u ∷ ts) r (omega (arith, length-insert t (collect (u ∷ ts)), length-collect (u ∷ ts))) in
+    not-joined t u ts (collect (u ∷ ts)) h (rest .0) (rest .1) e
+
+-- a list in order that its normal form is no shorter than ascends
+pub rises-ascending : (ts : List Term) → Rises ts → length ts ≤ length (normal ts) → Ascending ts
+rises-ascending ts r h = none-joined ts r (omega (arith, length-drop (collect ts), length-collect ts)) .0
