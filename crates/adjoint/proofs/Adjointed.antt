@@ -1,11 +1,10 @@
 -- The three ways out of `adjoint`: the record's refusal, no room, and the adjoint's record.
-use mathlib.Core.Path.{_≡_, sym, ap, _∙_}
+use mathlib.Core.Path.{_≡_, refl, sym, ap, _∙_}
 use mathlib.Core.List.{List, _++_}
 use Prim.Native.Nat.{ℕ, _+_, _*_, _-_, _≤_, _<_}
 use native.Mathlib.Omega.{arith}
 use lib.ListN.{length}
 use borrow.Author.Tests.{le-leb, lt-leb}
-use Rattle.modes.specs.declared.Refusal.{Refusal}
 use Rattle.modes.specs.Answers.{refusal, none, wrote}
 use Rattle.lent.specs.Bytes.{zeros}
 use Rattle.lent.specs.Outputs.{Gives, refusedOutput}
@@ -17,14 +16,14 @@ use Rattle.record.specs.declared.Checked.{Checked}
 use Rattle.record.proofs.Reading.{length-terms}
 use Rattle.record.proofs.Inverse.{length-encode}
 use Rattle.record.proofs.Accepted.{Accepted, refused}
-use Rattle.record.proofs.Outputs.{output-earlier, output-late, output-filled, gives-as}
+use Rattle.record.proofs.Outputs.{refused-earlier, refused-late, delivers, gives-as}
 use Rattle.adjoint.specs.Adjoint.{adjointTerms, adjointBytes, adjointed}
 use Rattle.adjoint.proofs.Terms.{length-adjoint}
 
 pub adjointed-refused : (room : ℕ) (l : List ℕ) (c : Checked) → c ≡ checkedOf 1 l → (c .refusal .number ≡ 0 → ⊥) → refusedOutput room (c .refusal) ≡ adjointed room l
 adjointed-refused room l c e h =
     let r : c .refusal ≡ refusalOf 1 l = ap (λ (d : Checked). d .refusal) (refused 1 l c e h) in
-    rw r (output-earlier room 0 (refusalOf 1 l) (modesOf l) (adjointTerms (termsOf l)) (roomRefusal room (countOf l)) (rw r at h))
+    rw r (refused-earlier room 0 (refusalOf 1 l) _ (modesOf l) (adjointTerms (termsOf l)) (rw r at h))
 
 module _ (room : ℕ) (l : List ℕ) (c : Checked) (k : Accepted 1 l c) where
   count-is : c .terms ≡ countOf l
@@ -44,8 +43,8 @@ module _ (room : ℕ) (l : List ℕ) (c : Checked) (k : Accepted 1 l c) where
 
   pub adjointed-short : room < 32 + 24 * c .terms → refusedOutput room (refusal 11 0 0) ≡ adjointed room l
   adjointed-short h =
-      let short : roomRefusal room (countOf l) ≡ refusal 11 0 0 = rw (← count-is, lt-leb _ _ h) in
-      rw short (output-late room 0 (refusalOf 1 l) (modesOf l) (adjointTerms (termsOf l)) (k .none) (refusal 11 0 0) (λ e. absurd (omega arith)))
+      let short : refusal 11 0 0 ≡ roomRefusal room (countOf l) = rw (← count-is, lt-leb _ _ h) in
+      refused-late room 0 (refusalOf 1 l) _ (modesOf l) (adjointTerms (termsOf l)) (k .none) (refusal 11 0 0) short (λ e. absurd (omega arith))
 
   length-bytes : length (adjointBytes l) ≡ 32 + 24 * c .terms
   length-bytes =
@@ -56,6 +55,6 @@ module _ (room : ℕ) (l : List ℕ) (c : Checked) (k : Accepted 1 l c) where
       → after ≡ encode (c .modes) (adjointTerms (termsIn l (c .terms))) ++ zeros (room - (32 + 24 * c .terms))
       → Gives (adjointed room l) (wrote (32 + 24 * c .terms) 0) after
   adjointed-filled after h e =
-      let long : roomRefusal room (countOf l) ≡ none = rw (← count-is, le-leb _ _ h) in
-      gives-as (output-filled room 0 (refusalOf 1 l) (modesOf l) (adjointTerms (termsOf l)) (k .none) (roomRefusal room (countOf l)) (ap (λ (r : Refusal). r .number) long))
+      let long : none ≡ roomRefusal room (countOf l) = rw (← count-is, le-leb _ _ h) in
+      gives-as (delivers room 0 (refusalOf 1 l) _ (modesOf l) (adjointTerms (termsOf l)) (k .none) none long refl)
       (record { answer = ap (λ (x : ℕ). wrote x 0) (sym length-bytes); bytes = e ∙ rw (k .terms, modes-are, length-bytes) })

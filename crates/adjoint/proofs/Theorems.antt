@@ -15,7 +15,7 @@ use Rattle.record.specs.Outputs.{roomRefusal}
 use Rattle.modes.proofs.Refusals.{neither}
 use Rattle.record.proofs.Accepted.{accepted-canonical}
 use Rattle.record.proofs.Inverse.{Small, canonical-fit, decode-modes, decode-terms, encode-accepted, encode-decode}
-use Rattle.record.proofs.Outputs.{output-fine, output-record}
+use Rattle.record.proofs.Outputs.{none-refused, output-record}
 use Rattle.adjoint.specs.Adjoint.{adjointTerms, adjointBytes, adjointed}
 use Rattle.adjoint.proofs.Terms.{canonical-adjoint, terms-twice}
 use Rattle.adjoint.proofs.Elements.{element-adjoint}
@@ -49,11 +49,9 @@ pub record Left (l after : List ℕ) (r : Written) : Type 0 where
 
 pub left-by : (room : ℕ) (l after : List ℕ) (r : Written) → Gives (adjointed room l) r after → r .refusal .number ≡ 0 → Left l after r
 left-by room l after r g e =
-    let late = roomRefusal room (countOf l) in
-    let whole = orElse (refusalOf 1 l) late in
     record {
-      fine = neither (refusalOf 1 l) late (output-fine room 0 whole (modesOf l) (adjointTerms (termsOf l)) r after g e) .0;
-      bytes = output-record room 0 whole (modesOf l) (adjointTerms (termsOf l)) r after g e;
+      fine = none-refused room 0 (refusalOf 1 l) (roomRefusal room (countOf l)) (modesOf l) (adjointTerms (termsOf l)) r after g e .0;
+      bytes = output-record room 0 (refusalOf 1 l) (roomRefusal room (countOf l)) (modesOf l) (adjointTerms (termsOf l)) r after g e;
     }
 
 module _ (room : ℕ) (l after : List ℕ) (r : Written) (g : Gives (adjointed room l) r after) (e : r .refusal .number ≡ 0) where

@@ -1,4 +1,4 @@
--- Calls of two records that write a record: their refusals case by case, and that what they write is accepted and holds the result.
+-- Calls of two records that write a record: their refusals case by case, and that a result that none refuses is a canonical form.
 use mathlib.Core.Path.{_≡_, refl, sym, ap, _∙_}
 use mathlib.Core.Bool.{Bool, true, false, cond}
 use mathlib.Core.List.{List}
@@ -6,11 +6,10 @@ use mathlib.Core.Logic.{_⊎_, ⊎-elim}
 use Prim.Native.Nat.{ℕ, _+_, _*_, _^_, _≤_, _<_}
 use native.Mathlib.Omega.{arith}
 use lib.Dec.{eqb, leb}
-use lib.ListN.{length, take}
+use lib.ListN.{length}
 use borrow.Author.Tests.{eq-eqb, ne-eqb, le-leb, lt-leb, eqb-true, eqb-false}
 use Rattle.modes.specs.declared.Term.{Term}
 use Rattle.modes.specs.declared.Refusal.{Refusal}
-use Rattle.modes.specs.declared.Written.{Written}
 use Rattle.modes.specs.Answers.{refusal, none}
 use Rattle.modes.proofs.Digits.{lt-or-ge}
 use Rattle.lent.specs.Bytes.{put, zeros}
@@ -29,6 +28,8 @@ use Rattle.record.proofs.Columns.{record-written}
 use Rattle.record.proofs.Inverse.{length-encode, decode-modes, decode-terms, encode-accepted}
 use Rattle.lincomb.specs.Results.{pairRefusal, resultRefusal, resultOf, shut, standing, openedOf}
 use Rattle.record.proofs.Outputs.{bound-kept, output-earlier, output-late, output-filled, output-fine, output-accepted, output-modes, output-terms}
+use Rattle.normal.specs.Normal.{normal}
+use Rattle.normal.proofs.Normal.{inside-joins, every-normal, normal-ascending, normal-nonzero}
 use Rattle.lincomb.specs.Merging.{Sound}
 use Rattle.lincomb.specs.Tallies.{Tallied}
 use Rattle.lincomb.specs.declared.Opened.{Opened}
@@ -194,48 +195,19 @@ unfolding resultRefusal
 verdict-same room ts r g =
     ⊎-elim (λ h. rw (g .terms, lt-leb _ _ h, lt-leb _ _ (g .heavy h))) (λ h. rw (g .terms, g .light h)) (lt-or-ge (2 ^ 60) (r .weight))
 
--- ---- the output
+-- ---- the output of a call that is not refused
 
-module _ (room branches : ℕ) (earlier : Refusal) (m : ℕ) (ts : List Term) where
-  pub refused-earlier : (earlier .number ≡ 0 → ⊥) → refusedOutput room earlier ≡ resultOf room branches earlier m ts
-  refused-earlier = output-earlier room branches earlier m ts (resultRefusal room (length ts) (weight ts))
-
-  module _ (fine : earlier ≡ none) (late : Refusal) (is : late ≡ resultRefusal room (length ts) (weight ts)) where
-    judged : recordOutput room branches (orElse earlier late) m ts ≡ resultOf room branches earlier m ts
-    judged = ap (λ (r : Refusal). recordOutput room branches (orElse earlier r) m ts) is
-
-    pub refused-late : (late .number ≡ 0 → ⊥) → refusedOutput room late ≡ resultOf room branches earlier m ts
-    refused-late h = output-late room branches earlier m ts fine late h ∙ judged
-
-    pub delivers : late .number ≡ 0 → filledOutput room branches (encode m ts) ≡ resultOf room branches earlier m ts
-    delivers h = output-filled room branches earlier m ts fine late h ∙ judged
-
--- a call that is not refused
-module _ (room branches : ℕ) (earlier : Refusal) (m : ℕ) (ts : List Term) (r : Written) (after : List ℕ)
-    (g : Gives (resultOf room branches earlier m ts) r after) (z : r .refusal .number ≡ 0) where
-  abbrev whole : Refusal
-  whole = orElse earlier (resultRefusal room (length ts) (weight ts))
-
-  neither-refused : (earlier .number ≡ 0) × ((resultRefusal room (length ts) (weight ts)) .number ≡ 0)
-  neither-refused = neither earlier (resultRefusal room (length ts) (weight ts)) (output-fine room branches whole m ts r after g z)
-
-  pub result-earlier : earlier .number ≡ 0
-  result-earlier = neither-refused .0
-
-  result-deliverable : Deliverable room (length ts) (weight ts)
-  result-deliverable = deliverable room (length ts) (weight ts) (neither-refused .1)
-
-  -- where the result ascends, has no zeros and holds only modes below m, the record is accepted, and its terms are the result
-  module _ (some : 1 ≤ m) (most : m ≤ 64) (within : Every (Inside m) ts) (ascending : Ascending ts) (nonzero : Every Nonzero ts) where
-    result-canonical : Canonical m ts
-    result-canonical =
-        record { some = some; most = most; few = result-deliverable .few; inside = within; ascending = ascending; nonzero = nonzero; light = result-deliverable .light }
-
-    pub result-accepted : (o : ℕ) → refusalOf o (take (r .len) after) ≡ none
-    result-accepted = output-accepted room branches whole m ts r after g z result-canonical
-
-    pub result-modes : modesOf (take (r .len) after) ≡ m
-    result-modes = output-modes room branches whole m ts r after g z result-canonical
-
-    pub result-terms : termsOf (take (r .len) after) ≡ ts
-    result-terms = output-terms room branches whole m ts r after g z result-canonical
+-- the normal form of terms that hold only modes below m is a canonical form
+pub result-canonical : (m : ℕ) (ts : List Term) → 1 ≤ m → m ≤ 64 → Every (Inside m) ts → (room : ℕ) → (resultRefusal room (length (normal ts)) (weight (normal ts))) .number ≡ 0
+    → Canonical m (normal ts)
+result-canonical m ts some most within room z =
+    let d = deliverable room (length (normal ts)) (weight (normal ts)) z in
+    record {
+      some = some;
+      most = most;
+      few = d .few;
+      inside = every-normal (inside-joins m) ts within;
+      ascending = normal-ascending ts;
+      nonzero = normal-nonzero ts;
+      light = d .light;
+    }

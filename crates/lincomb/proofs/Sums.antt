@@ -19,9 +19,9 @@ use Rattle.record.specs.Layout.{encode, modesOf, termsOf}
 use Rattle.record.specs.Refusals.{refusalOf}
 use Rattle.record.specs.Canonical.{Inside, Canonical}
 use Rattle.record.proofs.Accepted.{accepted-canonical}
-use Rattle.normal.specs.Normal.{dropZeros, normal}
+use Rattle.record.proofs.Outputs.{refused-earlier, refused-late, delivers, none-refused, output-accepted, output-modes, output-terms}
+use Rattle.normal.specs.Normal.{dropZeros}
 use Rattle.normal.proofs.Totals.{element-normal}
-use Rattle.normal.proofs.Normal.{inside-joins, every-normal, normal-ascending, normal-nonzero}
 use Rattle.lincomb.specs.Results.{pairRefusal, resultRefusal, openedOf}
 use Rattle.lincomb.specs.Sums.{turn, sumTerms, combined, added, subtracted}
 use Rattle.lincomb.specs.Merging.{Sound, onward}
@@ -30,7 +30,7 @@ use Rattle.lincomb.specs.declared.Opened.{Opened}
 use Rattle.lincomb.specs.declared.Tally.{Tally}
 use Rattle.lincomb.proofs.Totals.{element-turn}
 use Rattle.lincomb.proofs.Merging.{ascending-turn, merge-normal}
-use Rattle.lincomb.proofs.Results.{Opens, opens, shuts, sound, first-fine, second-fine, same-modes, Deliverable, deliverable, verdict-same, refused-earlier, refused-late, delivers, result-earlier, result-accepted, result-modes, result-terms}
+use Rattle.lincomb.proofs.Results.{Opens, opens, shuts, sound, first-fine, second-fine, same-modes, Deliverable, deliverable, verdict-same, result-canonical}
 
 -- ---- each way through the call
 
@@ -38,7 +38,7 @@ module _ (minus : Bool) (a b out : List ℕ) (p : Opened) (ep : p ≡ openedOf a
   pub pair-refused : (p .refusal .number ≡ 0 → ⊥) → refusedOutput (length out) (p .refusal) ≡ combined minus (length out) a b
   pair-refused h =
       let e = shuts a b p ep h in
-      rw e (refused-earlier (length out) 0 (pairRefusal a b) (modesOf a) (sumTerms minus a b) (λ q. h (ap (λ (r : Refusal). r .number) e ∙ q)))
+      rw e (refused-earlier (length out) 0 (pairRefusal a b) _ (modesOf a) (sumTerms minus a b) (λ q. h (ap (λ (r : Refusal). r .number) e ∙ q)))
 
   module _ (z : p .refusal .number ≡ 0) where
     ready : Opens a b p
@@ -66,7 +66,7 @@ module _ (minus : Bool) (a b out : List ℕ) (p : Opened) (ep : p ≡ openedOf a
           el ∙ verdict-same (length out) terms t g ∙ ap (λ (ts : List Term). resultRefusal (length out) (length ts) (weight ts)) terms-are
 
       pub result-refused : (late .number ≡ 0 → ⊥) → refusedOutput (length out) late ≡ combined minus (length out) a b
-      result-refused h = refused-late (length out) 0 (pairRefusal a b) (modesOf a) (sumTerms minus a b) (ready .pair) late judged h
+      result-refused h = refused-late (length out) 0 (pairRefusal a b) _ (modesOf a) (sumTerms minus a b) (ready .pair) late judged h
 
       module _ (fine : late .number ≡ 0) where
         pub room-enough : Deliverable (length out) (t .terms) (t .weight)
@@ -76,50 +76,41 @@ module _ (minus : Bool) (a b out : List ℕ) (p : Opened) (ep : p ≡ openedOf a
         pub result-delivered : filledOutput (length out) 0 (encode (p .modes) terms) ≡ combined minus (length out) a b
         result-delivered =
             ap₂ (λ (m : ℕ) (ts : List Term). filledOutput (length out) 0 (encode m ts)) (ready .modes) terms-are
-            ∙ delivers (length out) 0 (pairRefusal a b) (modesOf a) (sumTerms minus a b) (ready .pair) late judged fine
+            ∙ delivers (length out) 0 (pairRefusal a b) _ (modesOf a) (sumTerms minus a b) (ready .pair) late judged fine
 
 -- ---- the theorems, of the bytes that a call leaves where it is not refused
 
 inside-turn : (m : ℕ) (minus : Bool) (t : Term) → Inside m t → Inside m (turn minus t)
 inside-turn m minus t h = record { ann = h .ann; cre = h .cre }
 
--- any list of terms of two accepted records of one mode count, with any signs, has a normal form within these modes
-within-sum : (m : ℕ) (minus : Bool) (ts us : List Term) → Every (Inside m) ts → Every (Inside m) us → Every (Inside m) (normal (ts ++ map (turn minus) us))
-within-sum m minus ts us h k =
-    every-normal (inside-joins m) (ts ++ map (turn minus) us) (every-append ts (map (turn minus) us) h (every-map (turn minus) us (inside-turn m minus) k))
-
 module _ (minus : Bool) (room : ℕ) (a b : List ℕ) (r : Written) (after : List ℕ) (g : Gives (combined minus room a b) r after) (z : r .refusal .number ≡ 0) where
-  pair : (pairRefusal a b) .number ≡ 0
-  pair = result-earlier room 0 (pairRefusal a b) (modesOf a) (sumTerms minus a b) r after g z
+  abbrev both : List Term
+  both = termsOf a ++ map (turn minus) (termsOf b)
 
-  left : Canonical (modesOf a) (termsOf a)
-  left = accepted-canonical 1 a (first-fine a b pair)
+  fine : ((pairRefusal a b) .number ≡ 0) × ((resultRefusal room (length (sumTerms minus a b)) (weight (sumTerms minus a b))) .number ≡ 0)
+  fine = none-refused room 0 (pairRefusal a b) _ (modesOf a) (sumTerms minus a b) r after g z
 
-  within : Every (Inside (modesOf a)) (sumTerms minus a b)
-  within =
-      within-sum (modesOf a) minus (termsOf a) (termsOf b) (left .inside)
-      (rw (same-modes a b pair) (accepted-canonical 2 b (second-fine a b pair) .inside))
+  form : Canonical (modesOf a) (sumTerms minus a b)
+  form =
+      let left = accepted-canonical 1 a (first-fine a b (fine .0)) in
+      let right : Every (Inside (modesOf a)) (termsOf b) = rw (same-modes a b (fine .0)) (accepted-canonical 2 b (second-fine a b (fine .0)) .inside) in
+      result-canonical (modesOf a) both (left .some) (left .most)
+      (every-append (termsOf a) (map (turn minus) (termsOf b)) (left .inside) (every-map (turn minus) (termsOf b) (inside-turn (modesOf a) minus) right)) room (fine .1)
 
   -- the output's record is accepted
   pub sum-accepted : (o : ℕ) → refusalOf o (take (r .len) after) ≡ none
-  sum-accepted =
-      result-accepted room 0 (pairRefusal a b) (modesOf a) (sumTerms minus a b) r after g z (left .some) (left .most) within
-      (normal-ascending (termsOf a ++ map (turn minus) (termsOf b))) (normal-nonzero (termsOf a ++ map (turn minus) (termsOf b)))
+  sum-accepted = output-accepted room 0 (pairRefusal a b) _ (modesOf a) (sumTerms minus a b) r after g z form
 
   pub sum-modes : modesOf (take (r .len) after) ≡ modesOf a
-  sum-modes =
-      result-modes room 0 (pairRefusal a b) (modesOf a) (sumTerms minus a b) r after g z (left .some) (left .most) within
-      (normal-ascending (termsOf a ++ map (turn minus) (termsOf b))) (normal-nonzero (termsOf a ++ map (turn minus) (termsOf b)))
+  sum-modes = output-modes room 0 (pairRefusal a b) _ (modesOf a) (sumTerms minus a b) r after g z form
 
   pub sum-terms : termsOf (take (r .len) after) ≡ sumTerms minus a b
-  sum-terms =
-      result-terms room 0 (pairRefusal a b) (modesOf a) (sumTerms minus a b) r after g z (left .some) (left .most) within
-      (normal-ascending (termsOf a ++ map (turn minus) (termsOf b))) (normal-nonzero (termsOf a ++ map (turn minus) (termsOf b)))
+  sum-terms = output-terms room 0 (pairRefusal a b) _ (modesOf a) (sumTerms minus a b) r after g z form
 
   -- its elements are those of the first record plus those of the second, with the sign
   pub sum-elements : (bra ket : ℕ) → element bra ket (termsOf (take (r .len) after)) ≡ element bra ket (termsOf a) +ℤ signed minus (element bra ket (termsOf b))
   sum-elements bra ket =
-      ap (element bra ket) sum-terms ∙ element-normal bra ket (termsOf a ++ map (turn minus) (termsOf b))
+      ap (element bra ket) sum-terms ∙ element-normal bra ket both
       ∙ sum-append (part bra ket) (termsOf a) (map (turn minus) (termsOf b)) ∙ ap (λ (x : ℤ). element bra ket (termsOf a) +ℤ x) (element-turn bra ket minus (termsOf b))
 
 -- ADD: at every bra and ket the element of what is written is the sum of the two records' elements

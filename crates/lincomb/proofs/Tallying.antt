@@ -13,7 +13,7 @@ use Rattle.record.specs.Weights.{heavierBy}
 use Rattle.record.proofs.Weights.{Weighs, weighs-start, weighs-more}
 use Rattle.record.proofs.Checking.{weight-front, weight-none}
 use Rattle.normal.specs.Normal.{dropZeros}
-use Rattle.normal.proofs.Drops.{drop-length, drop-weight, drop-none}
+use Rattle.normal.proofs.Sizes.{drop-length, drop-weight, drop-none}
 use Rattle.lincomb.specs.Tallies.{Tallied}
 
 -- a walk over the terms of whole, with left to come: n counted so far, of weight w

@@ -10,7 +10,7 @@ use Rattle.lent.specs.Bytes.{put}
 use Rattle.record.specs.Layout.{columns, putTerm}
 use Rattle.record.proofs.Columns.{spread, spread-none, spread-more, length-spread, spread-all}
 use Rattle.normal.specs.Normal.{dropZeros}
-use Rattle.normal.proofs.Drops.{drop-none, drop-keeps, drop-leaves}
+use Rattle.normal.proofs.Sizes.{drop-none, drop-keeps, drop-leaves}
 
 -- a walk over the terms of whole, with left to come: done are the k terms that stand in out, of n in all
 pub record Writing (l : List ℕ) (n : ℕ) (whole left : List Term) (k : ℕ) (out : List ℕ) : Type 0 where

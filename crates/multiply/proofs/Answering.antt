@@ -18,11 +18,12 @@ use Rattle.record.specs.Layout.{modesOf, termsOf, termsIn}
 use Rattle.record.specs.Coefficients.{coeffOf}
 use Rattle.modes.specs.Refusals.{orElse}
 use Rattle.modes.proofs.Refusals.{or-first, or-second}
+use Rattle.record.proofs.Outputs.{refused-earlier}
 use Rattle.normal.specs.Normal.{normal}
 use Rattle.normal.proofs.Normal.{normal-same}
 use Rattle.lincomb.specs.Results.{pairRefusal, resultOf, openedOf}
 use Rattle.lincomb.specs.declared.Opened.{Opened}
-use Rattle.lincomb.proofs.Results.{Opens, opens, shuts, sound, refused-earlier}
+use Rattle.lincomb.proofs.Results.{Opens, opens, shuts, sound}
 use Rattle.joins.specs.Collected.{Collected}
 use Rattle.joins.specs.KeyWeights.{Light}
 use Rattle.pairs.specs.Products.{allRows, allBranches}
@@ -53,7 +54,7 @@ module _ (both minus : Bool) (a b : List ℕ) (work room : ℕ) (p : Opened) (ep
 
   -- refused by the first refusal that there is
   by : (r : Refusal) → r ≡ earlyRefusal both work a b → (r .number ≡ 0 → ⊥) → refusedOutput room r ≡ productAnswer both minus work room a b
-  by r e h = rw e (refused-earlier room branches (earlyRefusal both work a b) (modesOf a) (normal rows) (λ q. h (ap (λ (x : Refusal). x .number) e ∙ q)))
+  by r e h = rw e (refused-earlier room branches (earlyRefusal both work a b) _ (modesOf a) (normal rows) (λ q. h (ap (λ (x : Refusal). x .number) e ∙ q)))
 
   pub pair-refused : (p .refusal .number ≡ 0 → ⊥) → refusedOutput room (p .refusal) ≡ productAnswer both minus work room a b
   pair-refused h =

@@ -5,7 +5,7 @@ use mathlib.Core.List.{List, []}
 use Prim.Native.Nat.{ℕ, _≤_}
 use native.Mathlib.Nat.{lt-of-lt-of-le}
 use lib.IntN.{ℤ, negℤ, _+ℤ_, _*ℤ_, +ℤ-idr}
-use lib.ListN.{take}
+use lib.ListN.{length, take}
 use lib.Pow.{pow-mono}
 use Rattle.modes.specs.declared.Term.{Term}
 use Rattle.modes.specs.declared.Written.{Written}
@@ -26,9 +26,10 @@ use Rattle.record.proofs.Accepted.{accepted-canonical}
 use Rattle.normal.specs.Normal.{normal}
 use Rattle.normal.proofs.Totals.{element-normal}
 use Rattle.normal.proofs.Normal.{inside-joins, every-normal, normal-ascending, normal-nonzero}
-use Rattle.lincomb.specs.Results.{pairRefusal}
-use Rattle.lincomb.proofs.Results.{first-fine, second-fine, same-modes, result-earlier, result-accepted, result-modes, result-terms}
-use Rattle.pairs.specs.Products.{pairRows, allRows, allBranches, inSuccession}
+use Rattle.lincomb.specs.Results.{pairRefusal, resultRefusal}
+use Rattle.lincomb.proofs.Results.{first-fine, second-fine, same-modes, result-earlier, result-accepted, result-modes, result-terms, result-canonical}
+use Rattle.pairs.specs.Products.{pairRows, allRows, allBranches, inSuccession, rowsWith, inTurn}
+use Rattle.record.proofs.Outputs.{none-refused, output-accepted, output-modes, output-terms}
 use Rattle.multiply.specs.Answers.{weightRefusal, workRefusal, earlyRefusal, productAnswer, productOf, commutatorOf, anticommutatorOf}
 use Rattle.multiply.proofs.Elements.{other, all-elements}
 
@@ -65,10 +66,11 @@ module _ (both minus : Bool) (work room : ℕ) (a b : List ℕ) (r : Written) (a
   abbrev branches : ℕ
   branches = allBranches both (termsOf a) (termsOf b)
 
+  fine : ((earlyRefusal both work a b) .number ≡ 0) × ((resultRefusal room (length (normal rows)) (weight (normal rows))) .number ≡ 0)
+  fine = none-refused room branches (earlyRefusal both work a b) _ (modesOf a) (normal rows) r after g z
+
   pair : (pairRefusal a b) .number ≡ 0
-  pair =
-      neither (pairRefusal a b) (orElse (weightRefusal (weight (termsOf a)) (weight (termsOf b))) (workRefusal work branches))
-      (result-earlier room branches (earlyRefusal both work a b) (modesOf a) (normal rows) r after g z) .0
+  pair = neither (pairRefusal a b) (orElse (weightRefusal (weight (termsOf a)) (weight (termsOf b))) (workRefusal work branches)) (fine .0) .0
 
   left : Canonical (modesOf a) (termsOf a)
   left = accepted-canonical 1 a (first-fine a b pair)
@@ -76,21 +78,19 @@ module _ (both minus : Bool) (work room : ℕ) (a b : List ℕ) (r : Written) (a
   right : Every (Inside (modesOf a)) (termsOf b)
   right = rw (same-modes a b pair) (accepted-canonical 2 b (second-fine a b pair) .inside)
 
-  within : Every (Inside (modesOf a)) (normal rows)
-  within = every-normal (inside-joins (modesOf a)) rows (all-inside (modesOf a) both minus (termsOf a) (termsOf b) (left .inside) right)
+  form : Canonical (modesOf a) (normal rows)
+  form =
+      result-canonical (modesOf a) rows (left .some) (left .most) (all-inside (modesOf a) both minus (termsOf a) (termsOf b) (left .inside) right) room (fine .1)
 
   -- the output's record is accepted
   pub product-accepted : (o : ℕ) → refusalOf o (take (r .len) after) ≡ none
-  product-accepted =
-      result-accepted room branches (earlyRefusal both work a b) (modesOf a) (normal rows) r after g z (left .some) (left .most) within (normal-ascending rows) (normal-nonzero rows)
+  product-accepted = output-accepted room branches (earlyRefusal both work a b) _ (modesOf a) (normal rows) r after g z form
 
   pub product-modes : modesOf (take (r .len) after) ≡ modesOf a
-  product-modes =
-      result-modes room branches (earlyRefusal both work a b) (modesOf a) (normal rows) r after g z (left .some) (left .most) within (normal-ascending rows) (normal-nonzero rows)
+  product-modes = output-modes room branches (earlyRefusal both work a b) _ (modesOf a) (normal rows) r after g z form
 
   product-terms : termsOf (take (r .len) after) ≡ normal rows
-  product-terms =
-      result-terms room branches (earlyRefusal both work a b) (modesOf a) (normal rows) r after g z (left .some) (left .most) within (normal-ascending rows) (normal-nonzero rows)
+  product-terms = output-terms room branches (earlyRefusal both work a b) _ (modesOf a) (normal rows) r after g z form
 
   product-elements : (bra ket : ℕ) → element bra ket (termsOf (take (r .len) after))
       ≡ inSuccession bra ket (termsOf a) (termsOf b) +ℤ other both minus (inSuccession bra ket (termsOf b) (termsOf a))

@@ -1,5 +1,4 @@
 pub mod Totals
-pub mod Drops
 pub mod Normal
 pub mod Sizes
 pub mod Words

@@ -1,4 +1,4 @@
--- The normal form has no more terms than the list, and no more weight; a list in order with no fewer ascends.
+-- How many terms stay where zeros are dropped and like terms joined, and their weight: no more than there were; a list in order that loses none ascends.
 use mathlib.Core.Path.{_≡_, refl, sym, _∙_}
 use mathlib.Core.Bool.{Bool, true, false, cond, true≢false}
 use mathlib.Core.List.{List, [], _∷_}
@@ -7,6 +7,7 @@ use native.Mathlib.Omega.{arith}
 use lib.Dec.{eqb}
 use lib.IntN.{natAbs}
 use lib.ListN.{length}
+use borrow.Author.Tests.{eqb-true, eq-eqb, ne-eqb}
 use Rattle.modes.specs.declared.Term.{Term}
 use Rattle.integers.proofs.SignedNumbers.{abs-sum}
 use Rattle.record.specs.Terms.{before, weight, Ascending, empty, above}
@@ -14,7 +15,41 @@ use Rattle.modes.specs.Every.{none, more}
 use Rattle.record.proofs.Order.{above-trans}
 use Rattle.normal.specs.Normal.{alike, join, insert, collect, dropZeros, normal}
 use Rattle.normal.proofs.Totals.{alike-where-level}
-use Rattle.normal.proofs.Drops.{drop-weight}
+
+-- ---- zeros dropped
+
+pub drop-keeps : (t : Term) (ts : List Term) → (natAbs (t .coeff) ≡ 0 → ⊥) → dropZeros (t ∷ ts) ≡ t ∷ dropZeros ts
+unfolding dropZeros
+drop-keeps t ts h = rw (ne-eqb _ _ h)
+
+pub drop-leaves : (t : Term) (ts : List Term) → natAbs (t .coeff) ≡ 0 → dropZeros (t ∷ ts) ≡ dropZeros ts
+unfolding dropZeros
+drop-leaves t ts h = rw (eq-eqb _ _ h)
+
+pub drop-length : (t : Term) (ts : List Term) → length (dropZeros (t ∷ ts)) ≡ cond (eqb (natAbs (t .coeff)) 0) 0 1 + length (dropZeros ts)
+unfolding dropZeros
+drop-length t ts = go (eqb (natAbs (t .coeff)) 0)
+  where
+    go : (b : Bool) → length (cond b (dropZeros ts) (t ∷ dropZeros ts)) ≡ cond b 0 1 + length (dropZeros ts)
+    go true = omega arith
+    go false = omega arith
+
+-- a term of size 0 weighs nothing
+pub drop-weight : (ts : List Term) → weight (dropZeros ts) ≡ weight ts
+unfolding dropZeros weight
+drop-weight [] = refl
+drop-weight (t ∷ ts) = go (drop-weight ts) (eqb (natAbs (t .coeff)) 0) refl
+  where
+    go : weight (dropZeros ts) ≡ weight ts → (b : Bool) → eqb (natAbs (t .coeff)) 0 ≡ b
+        → weight (cond b (dropZeros ts) (t ∷ dropZeros ts)) ≡ natAbs (t .coeff) + weight ts
+    go ih true e = let z : natAbs (t .coeff) ≡ 0 = eqb-true _ _ e in omega arith
+    go ih false e = omega arith
+
+pub drop-none : (ts : List Term) → ts ≡ [] → dropZeros ts ≡ []
+unfolding dropZeros
+drop-none ts e = rw e
+
+-- ---- like terms joined
 
 -- a total of what each term counts, where two terms joined count no more than both
 module _ (g : Term → ℕ) (total : List Term → ℕ) (cons : (t : Term) (ts : List Term) → total (t ∷ ts) ≡ g t + total ts)

@@ -18,7 +18,7 @@ use Rattle.modes.specs.Refusals.{orElse}
 use Rattle.record.specs.Refusals.{refusalOf}
 use Rattle.record.specs.Canonical.{Canonical}
 use Rattle.record.specs.Outputs.{recordOutput}
-use Rattle.modes.proofs.Refusals.{or-first, or-second}
+use Rattle.modes.proofs.Refusals.{or-first, or-second, neither}
 use Rattle.record.proofs.Columns.{record-written}
 use Rattle.record.proofs.Inverse.{length-encode, decode-modes, decode-terms, encode-accepted}
 
@@ -30,21 +30,21 @@ bound-kept x y k = go (leb x y) refl
     go true q z h = leb-true x y q
     go false q z h = absurd (h z)
 
--- ---- each way out of a call that is refused by earlier, or else by late
+-- ---- each way out of a call that is refused by earlier, or else by later
 
-module _ (room branches : ℕ) (earlier : Refusal) (m : ℕ) (ts : List Term) where
-  pub output-earlier : (late : Refusal) → (earlier .number ≡ 0 → ⊥) → refusedOutput room earlier ≡ recordOutput room branches (orElse earlier late) m ts
+module _ (room branches : ℕ) (earlier later : Refusal) (m : ℕ) (ts : List Term) where
+  pub refused-earlier : (earlier .number ≡ 0 → ⊥) → refusedOutput room earlier ≡ recordOutput room branches (orElse earlier later) m ts
   unfolding recordOutput
-  output-earlier late h = rw (or-first earlier late h, ne-eqb _ _ h)
+  refused-earlier h = rw (or-first earlier later h, ne-eqb _ _ h)
 
-  module _ (fine : earlier ≡ none) (late : Refusal) where
-    pub output-late : (late .number ≡ 0 → ⊥) → refusedOutput room late ≡ recordOutput room branches (orElse earlier late) m ts
+  module _ (fine : earlier ≡ none) (late : Refusal) (is : late ≡ later) where
+    pub refused-late : (late .number ≡ 0 → ⊥) → refusedOutput room late ≡ recordOutput room branches (orElse earlier later) m ts
     unfolding recordOutput
-    output-late h = rw (fine, or-second none late refl, ne-eqb _ _ h)
+    refused-late h = rw (fine, ← is, or-second none late refl, ne-eqb _ _ h)
 
-    pub output-filled : late .number ≡ 0 → filledOutput room branches (encode m ts) ≡ recordOutput room branches (orElse earlier late) m ts
+    pub delivers : late .number ≡ 0 → filledOutput room branches (encode m ts) ≡ recordOutput room branches (orElse earlier later) m ts
     unfolding recordOutput
-    output-filled h = rw (fine, or-second none late refl, eq-eqb _ _ h)
+    delivers h = rw (fine, ← is, or-second none late refl, eq-eqb _ _ h)
 
 pub gives-as : {o q : Output} {r : Written} {x : List ℕ} → o ≡ q → Gives o r x → Gives q r x
 gives-as {o} {q} {r} {x} e g = subst (λ (y : Output). Gives y r x) e g
@@ -61,19 +61,22 @@ record-given out one two three branches m n ts count room e1 e2 e3 =
 
 -- ---- a call that is not refused
 
-module _ (room branches : ℕ) (f : Refusal) (m : ℕ) (ts : List Term) (r : Written) (after : List ℕ)
-    (g : Gives (recordOutput room branches f m ts) r after) (z : r .refusal .number ≡ 0) where
-  not-refused : (f .number ≡ 0) × (recordOutput room branches f m ts ≡ filledOutput room branches (encode m ts))
+module _ (room branches : ℕ) (earlier later : Refusal) (m : ℕ) (ts : List Term) (r : Written) (after : List ℕ)
+    (g : Gives (recordOutput room branches (orElse earlier later) m ts) r after) (z : r .refusal .number ≡ 0) where
+  abbrev whole : Refusal
+  whole = orElse earlier later
+
+  not-refused : (whole .number ≡ 0) × (recordOutput room branches whole m ts ≡ filledOutput room branches (encode m ts))
   unfolding recordOutput
-  not-refused = go (eqb (f .number) 0) refl (g .answer)
+  not-refused = go (eqb (whole .number) 0) refl (g .answer)
     where
-      go : (s : Bool) → eqb (f .number) 0 ≡ s → r ≡ (cond s (filledOutput room branches (encode m ts)) (refusedOutput room f)) .answer
-          → (f .number ≡ 0) × (cond s (filledOutput room branches (encode m ts)) (refusedOutput room f) ≡ filledOutput room branches (encode m ts))
+      go : (s : Bool) → eqb (whole .number) 0 ≡ s → r ≡ (cond s (filledOutput room branches (encode m ts)) (refusedOutput room whole)) .answer
+          → (whole .number ≡ 0) × (cond s (filledOutput room branches (encode m ts)) (refusedOutput room whole) ≡ filledOutput room branches (encode m ts))
       go true e p = (eqb-true _ _ e, refl)
       go false e p = absurd (eqb-false _ _ e (ap (λ (w : Written). w .refusal .number) (sym p) ∙ z))
 
-  pub output-fine : f .number ≡ 0
-  output-fine = not-refused .0
+  pub none-refused : (earlier .number ≡ 0) × (later .number ≡ 0)
+  none-refused = neither earlier later (not-refused .0)
 
   -- the bytes of the answer's length are the record
   pub output-record : take (r .len) after ≡ encode m ts

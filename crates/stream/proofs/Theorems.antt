@@ -20,9 +20,9 @@ use Rattle.modes.specs.Refusals.{orElse}
 use Rattle.record.specs.Refusals.{refusalOf}
 use Rattle.record.proofs.Header.{Laid, laid}
 use Rattle.modes.proofs.Refusals.{or-first, or-second}
+use Rattle.record.proofs.Outputs.{refused-earlier}
 use Rattle.normal.specs.Normal.{normal}
 use Rattle.lincomb.specs.Results.{pairRefusal}
-use Rattle.lincomb.proofs.Results.{refused-earlier}
 use Rattle.pairs.specs.Products.{allRows}
 use Rattle.multiply.specs.Answers.{earlyRefusal, commutatorOf}
 use Rattle.multiply.proofs.Theorems.{product-accepted, product-modes, commutator-elements}
@@ -58,7 +58,7 @@ module _ (work room : ℕ) where
   commutator-refused : (a b : List ℕ) (f : Refusal) → pairRefusal a b ≡ f → (f .number ≡ 0 → ⊥) → commutatorOf work room a b ≡ refusedOutput room f
   commutator-refused a b f e h =
       let early : earlyRefusal true work a b ≡ f = rw e (or-first f _ h) in
-      sym (refused-earlier room _ (earlyRefusal true work a b) (modesOf a) (normal (allRows true true (termsOf a) (termsOf b))) (λ z. h (ap (λ (r : Refusal). r .number) (sym early) ∙ z))) ∙ ap (refusedOutput room) early
+      sym (refused-earlier room _ (earlyRefusal true work a b) _ (modesOf a) (normal (allRows true true (termsOf a) (termsOf b))) (λ z. h (ap (λ (r : Refusal). r .number) (sym early) ∙ z))) ∙ ap (refusedOutput room) early
 
   module _ (input : List ℕ) where
     -- what is there of a first record that is not there whole is refused with 1

@@ -7,8 +7,8 @@ use Rattle.modes.specs.declared.Refusal.{Refusal}
 use Rattle.modes.specs.Answers.{none}
 use Rattle.lent.specs.Rows.{rowsAt}
 use Rattle.lent.proofs.RowLaws.{length-rows-at}
-use Rattle.record.proofs.Outputs.{gives-as, record-given}
-use Rattle.lincomb.proofs.Results.{deliverable, refused-late, delivers}
+use Rattle.record.proofs.Outputs.{refused-late, delivers, gives-as, record-given}
+use Rattle.lincomb.proofs.Results.{deliverable}
 use Rattle.multiply.proofs.Delivering.{verdict-is}
 use Rattle.multiply.proofs.deliver.Statement.{statement}
 use Rattle.multiply.proofs.deliver.Tie as tie
@@ -30,7 +30,7 @@ returns c =
     let s = c .before .before .before .before .before .before .before .before .before .before in
     let t = c .before .before .before .before .before .before .before .tally .ensures in
     let judged = verdict-is (length (s .args .out .now)) (s .args .work .now) (s .args .n) _ t _ (c .before .before .before .before .before .before .verdict .ensures) in
-    gives-as (refused-late (length (s .args .out .now)) (s .args .branches) none (s .args .m) (rowsAt (s .args .work .now) 0 (s .args .n)) refl _ judged (c .before .before .before .before .if1 .taken)) (c .before .before .refuse .ensures)
+    gives-as (refused-late (length (s .args .out .now)) (s .args .branches) none _ (s .args .m) (rowsAt (s .args .work .now) 0 (s .args .n)) refl _ judged (c .before .before .before .before .if1 .taken)) (c .before .before .refuse .ensures)
 
 put-header-requires : tie.Need-put-header-requires
 put-header-requires c κs =
@@ -65,7 +65,7 @@ returns-2 c =
     let t = c .before .before .before .before .before .before .before .before .before .before .before .before .before .before .before .tally .ensures in
     let judged = verdict-is (length (s .args .out .now)) (s .args .work .now) (s .args .n) _ t _ (c .before .before .before .before .before .before .before .before .before .before .before .before .before .before .verdict .ensures) in
     let room = (deliverable (length (s .args .out .now)) _ _ (ap (λ (r : Refusal). r .number) (sym (c .before .before .before .before .before .before .before .before .before .before .before .before .before .before .verdict .ensures)) ∙ c .before .before .before .before .before .before .before .before .before .before .before .before .if1 .left)) in
-    gives-as (delivers (length (s .args .out .now)) (s .args .branches) none (s .args .m) (rowsAt (s .args .work .now) 0 (s .args .n)) refl _ judged (c .before .before .before .before .before .before .before .before .before .before .before .before .if1 .left))
+    gives-as (delivers (length (s .args .out .now)) (s .args .branches) none _ (s .args .m) (rowsAt (s .args .work .now) 0 (s .args .n)) refl _ judged (c .before .before .before .before .before .before .before .before .before .before .before .before .if1 .left))
     (record-given (s .args .out .now) _ _ _ (s .args .branches) (s .args .m) (s .args .n) (rowsAt (s .args .work .now) 0 (s .args .n)) (sym (length-rows-at (s .args .work .now) 0 (s .args .n))) (room .long)
     (c .before .before .before .before .before .before .before .before .before .before .put-header .ensures) (c .before .before .before .before .before .before .put-terms .ensures) (c .before .before .wipe-from .ensures))
 
