@@ -22,29 +22,22 @@ use Rattle.modes.proofs.Refusals.{or-first, or-second, neither}
 use Rattle.record.proofs.Columns.{record-written}
 use Rattle.record.proofs.Inverse.{length-encode, decode-modes, decode-terms, encode-accepted}
 
--- a bound whose number does not refuse is kept
-pub bound-kept : (x y k : ℕ) → (cond (leb x y) none (refusal k 0 0)) .number ≡ 0 → (k ≡ 0 → ⊥) → x ≤ y
-bound-kept x y k = go (leb x y) refl
-  where
-    go : (s : Bool) → leb x y ≡ s → (cond s none (refusal k 0 0)) .number ≡ 0 → (k ≡ 0 → ⊥) → x ≤ y
-    go true q z h = leb-true x y q
-    go false q z h = absurd (h z)
+-- a bound whose refusal is not given is kept
+pub bound-kept : (x y k : ℕ) → (need (leb x y) (refusal k 0 0)) .number ≡ 0 → (k ≡ 0 → ⊥) → x ≤ y
+bound-kept x y k z h = leb-true x y (needed (leb x y) (refusal k 0 0) h z)
 
 -- ---- each way out of a call that is refused by earlier, or else by later
 
 module _ (room branches : ℕ) (earlier later : Refusal) (m : ℕ) (ts : List Term) where
   pub refused-earlier : (earlier .number ≡ 0 → ⊥) → refusedOutput room earlier ≡ recordOutput room branches (orElse earlier later) m ts
-  unfolding recordOutput
-  refused-earlier h = rw (or-first earlier later h, ne-eqb _ _ h)
+  refused-earlier h = first-refuses earlier later (refusedOutput room) _ h
 
   module _ (fine : earlier ≡ none) (late : Refusal) (is : late ≡ later) where
     pub refused-late : (late .number ≡ 0 → ⊥) → refusedOutput room late ≡ recordOutput room branches (orElse earlier later) m ts
-    unfolding recordOutput
-    refused-late h = rw (fine, ← is, or-second none late refl, ne-eqb _ _ h)
+    refused-late h = rw (fine, ← is) (second-refuses none late (refusedOutput room) _ refl h)
 
     pub delivers : late .number ≡ 0 → filledOutput room branches (encode m ts) ≡ recordOutput room branches (orElse earlier later) m ts
-    unfolding recordOutput
-    delivers h = rw (fine, ← is, or-second none late refl, eq-eqb _ _ h)
+    delivers h = rw (fine, ← is) (neither-refuses none late (refusedOutput room) _ refl h)
 
 pub gives-as : {o q : Output} {r : Written} {x : List ℕ} → o ≡ q → Gives o r x → Gives q r x
 gives-as {o} {q} {r} {x} e g = subst (λ (y : Output). Gives y r x) e g
@@ -63,26 +56,19 @@ record-given out one two three branches m n ts count room e1 e2 e3 =
 
 module _ (room branches : ℕ) (earlier later : Refusal) (m : ℕ) (ts : List Term) (r : Written) (after : List ℕ)
     (g : Gives (recordOutput room branches (orElse earlier later) m ts) r after) (z : r .refusal .number ≡ 0) where
-  abbrev whole : Refusal
-  whole = orElse earlier later
-
-  not-refused : (whole .number ≡ 0) × (recordOutput room branches whole m ts ≡ filledOutput room branches (encode m ts))
-  unfolding recordOutput
-  not-refused = go (eqb (whole .number) 0) refl (g .answer)
-    where
-      go : (s : Bool) → eqb (whole .number) 0 ≡ s → r ≡ (cond s (filledOutput room branches (encode m ts)) (refusedOutput room whole)) .answer
-          → (whole .number ≡ 0) × (cond s (filledOutput room branches (encode m ts)) (refusedOutput room whole) ≡ filledOutput room branches (encode m ts))
-      go true e p = (eqb-true _ _ e, refl)
-      go false e p = absurd (eqb-false _ _ e (ap (λ (w : Written). w .refusal .number) (sym p) ∙ z))
+  given : ((orElse earlier later) .number ≡ 0) × (recordOutput room branches (orElse earlier later) m ts ≡ filledOutput room branches (encode m ts))
+  given =
+      not-refused (orElse earlier later) (refusedOutput room) _ (λ o. o .answer .refusal) refl _ refl
+      (ap (λ (w : Written). w .refusal .number) (sym (g .answer)) ∙ z)
 
   pub none-refused : (earlier .number ≡ 0) × (later .number ≡ 0)
-  none-refused = neither earlier later (not-refused .0)
+  none-refused = neither earlier later (given .0)
 
   -- the bytes of the answer's length are the record
   pub output-record : take (r .len) after ≡ encode m ts
   output-record =
-      let bytes : after ≡ encode m ts ++ zeros (room - length (encode m ts)) = g .bytes ∙ ap (λ (o : Output). o .bytes) (not-refused .1) in
-      let len : r .len ≡ length (encode m ts) = ap (λ (w : Written). w .len) (g .answer ∙ ap (λ (o : Output). o .answer) (not-refused .1)) in
+      let bytes : after ≡ encode m ts ++ zeros (room - length (encode m ts)) = g .bytes ∙ ap (λ (o : Output). o .bytes) (given .1) in
+      let len : r .len ≡ length (encode m ts) = ap (λ (w : Written). w .len) (g .answer ∙ ap (λ (o : Output). o .answer) (given .1)) in
       ap (take (r .len)) bytes ∙ take-at (encode m ts) _ (r .len) (sym len)
 
   -- THE OUTPUT OF A CALL. Where the terms are a canonical form, the record is accepted, and its modes and terms are these
