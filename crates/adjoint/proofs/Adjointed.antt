@@ -35,9 +35,6 @@ module _ (room : ℕ) (l : List ℕ) (c : Checked) (k : Accepted 1 l c) where
   pub canonical : Canonical (c .modes) (termsIn l (c .terms))
   canonical = rw (k .terms, modes-are) (k .canonical)
 
-  pub fits-in : 32 + 24 * c .terms ≤ length l
-  fits-in = omega (arith, k .laid .size, count-is)
-
   pub few : c .terms ≤ 2048
   few = omega (arith, k .laid .few, count-is)
 

@@ -16,6 +16,7 @@ ghost use Rattle.modes.specs.Every.{Every};
 ghost use Rattle.lent.specs.Outputs.{Gives};
 ghost use Rattle.record.specs.Terms.{Ascending};
 ghost use Rattle.record.specs.Layout.{columns, encode, termsIn};
+ghost use Rattle.record.specs.Reading.{Holds};
 ghost use Rattle.record.specs.Canonical.{Canonical};
 ghost use Rattle.adjoint.specs.Adjoint.{Negatable, adjointTerm, adjointTerms, adjointed};
 ghost use Rattle.adjoint.specs.Hermitian.{Among, AdjointsAmong, Tells, hermitianOf};
@@ -47,7 +48,7 @@ fn adjoint_term(t: Term) -> Term
 
 // The adjoint terms to the output's columns, in the record's own order.
 fn put_adjoint_terms(a: &[u8], n: usize, out: &mut [u8])
-    requires { ⌜ (32 + 24 * n ≤ length (now a)) × (32 + 24 * n ≤ length (now out)) × Every Negatable (termsIn (now a) n) ⌝ }
+    requires { ⌜ Holds (now a) n × Holds (now out) n × Every Negatable (termsIn (now a) n) ⌝ }
     ensures { λ _. ⌜ now (out .exit) ≡ put (now (out .entry)) 32 (columns (map adjointTerm (termsIn (now (a .entry)) n))) ⌝ }
 {
     let mut i = 0;
@@ -61,7 +62,7 @@ fn put_adjoint_terms(a: &[u8], n: usize, out: &mut [u8])
 
 // The adjoint's record to the front, sorted where it stands, and zeros past it.
 fn write_adjoint(a: &[u8], m: u64, n: usize, out: &mut [u8])
-    requires { ⌜ (32 + 24 * n ≤ length (now a)) × (32 + 24 * n ≤ length (now out)) × Canonical m (termsIn (now a) n) ⌝ }
+    requires { ⌜ Holds (now a) n × Holds (now out) n × Canonical m (termsIn (now a) n) ⌝ }
     ensures { λ _. ⌜ now (out .exit) ≡ encode m (adjointTerms (termsIn (now (a .entry)) n)) ++ zeros (length (now (out .entry)) - (32 + 24 * n)) ⌝ }
 {
     record::put_header(out, m, n);
@@ -107,7 +108,7 @@ fn is_same(t: Term, u: Term) -> bool
 
 // Is t one of the n terms? It can only stand after those before it.
 fn has_term(s: &[u8], n: usize, t: Term) -> bool
-    requires { ⌜ (32 + 24 * n ≤ length (now s)) × Ascending (termsIn (now s) n) ⌝ }
+    requires { ⌜ Holds (now s) n × Ascending (termsIn (now s) n) ⌝ }
     ensures { λ r. ⌜ Tells r (Among t (termsIn (now (s .entry)) n)) ⌝ }
 {
     let i = record::count_before(s, n, t);
@@ -120,7 +121,7 @@ fn has_term(s: &[u8], n: usize, t: Term) -> bool
 
 // Is the adjoint of every term one of the n terms?
 fn has_adjoints(s: &[u8], n: usize) -> bool
-    requires { ⌜ (32 + 24 * n ≤ length (now s)) × Ascending (termsIn (now s) n) × Every Negatable (termsIn (now s) n) ⌝ }
+    requires { ⌜ Holds (now s) n × Ascending (termsIn (now s) n) × Every Negatable (termsIn (now s) n) ⌝ }
     ensures { λ r. ⌜ Tells r (AdjointsAmong (termsIn (now (s .entry)) n) (termsIn (now (s .entry)) n)) ⌝ }
 {
     let mut i = 0;

@@ -12,7 +12,9 @@ use Rattle.modes.proofs.Refusals.{or-first, or-second}
 use Rattle.lincomb.specs.Results.{pairRefusal, openedOf}
 use Rattle.lincomb.specs.declared.Opened.{Opened}
 use Rattle.lincomb.proofs.Results.{Opens, opens, shuts, sound}
-use Rattle.pairs.specs.Products.{branchesOfAll}
+use Rattle.pairs.specs.Products.{branchesOfAll, allBranches}
+use Rattle.record.specs.Reading.{Holds}
+use Rattle.record.proofs.Accepted.{sound}
 use Rattle.multiply.specs.Answers.{workRefusal}
 use Rattle.branches.specs.Ceiling.{most, upTo}
 use Rattle.branches.specs.Branches.{counted, uncounted, branchesIn, branchesRefusal, branchesTold}
@@ -41,10 +43,10 @@ module _ (a b : List ℕ) (p : Opened) (ep : p ≡ openedOf a b) where
     ready : Opens a b p
     ready = opens a b p ep z
 
-    pub first-there : 32 + 24 * p .left ≤ length a
+    pub first-there : Holds a (p .left)
     first-there = sound 1 a (p .left) (ready .one) (ready .left) .size
 
-    pub second-there : 32 + 24 * p .right ≤ length b
+    pub second-there : Holds b (p .right)
     second-there = sound 2 b (p .right) (ready .two) (ready .right) .size
 
     after-pair : branchesRefusal a b ≡ workRefusal (2 ^ 63) (branchesIn a b + branchesIn b a)

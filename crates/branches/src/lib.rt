@@ -6,7 +6,8 @@ ghost use Prim.Native.Nat.{_+_, _*_, _^_, _≤_};
 ghost use lib.Count.{ones};
 ghost use lib.ListN.{length};
 ghost use Rattle.record.specs.Layout.{termsIn};
-ghost use Rattle.pairs.specs.Products.{branchesOf, branchesWith, branchesOfAll};
+ghost use Rattle.pairs.specs.Products.{branchesOf, branchesWith, branchesOfAll, allBranches};
+ghost use Rattle.record.specs.Reading.{Holds};
 ghost use Rattle.branches.specs.Ceiling.{most, upTo};
 ghost use Rattle.branches.specs.Branches.{uncounted, branchesTold};
 
@@ -65,7 +66,7 @@ fn of_pair(t: Term, u: Term) -> u64
 
 // The branches of the term t with each of the n terms of b.
 fn of_term(t: Term, b: &[u8], n: usize) -> u64
-    requires { ⌜ 32 + 24 * n ≤ length (now b) ⌝ }
+    requires { ⌜ Holds (now b) n ⌝ }
     ensures { λ r. ⌜ r ≡ upTo (branchesWith t (termsIn (now (b .entry)) n)) ⌝ }
 {
     let mut so_far = 0;
@@ -80,7 +81,7 @@ fn of_term(t: Term, b: &[u8], n: usize) -> u64
 
 // The branches of all pairs of a term of a and a term of b.
 fn of_all(a: &[u8], na: usize, b: &[u8], nb: usize) -> u64
-    requires { ⌜ (32 + 24 * na ≤ length (now a)) × (32 + 24 * nb ≤ length (now b)) ⌝ }
+    requires { ⌜ Holds (now a) na × Holds (now b) nb ⌝ }
     ensures { λ r. ⌜ r ≡ upTo (branchesOfAll (termsIn (now (a .entry)) na) (termsIn (now (b .entry)) nb)) ⌝ }
 {
     let mut so_far = 0;

@@ -5,12 +5,13 @@ use mathlib.Core.List.{List}
 use Prim.Native.Nat.{ℕ}
 use borrow.Author.Tests.{ne-eqb}
 use Rattle.record.specs.Layout.{termsOf}
-use Rattle.record.proofs.Accepted.{accepted-canonical}
+use Rattle.record.proofs.Accepted.{accepted-canonical, sound}
 use Rattle.normal.specs.Normal.{dropZeros}
 use Rattle.lincomb.specs.Results.{openedOf}
-use Rattle.lincomb.specs.Merging.{Sound, onward}
+use Rattle.record.specs.Reading.{Sound}
+use Rattle.lincomb.specs.Merging.{onward}
 use Rattle.lincomb.specs.declared.Opened.{Opened}
-use Rattle.lincomb.proofs.Results.{Opens, opens, shuts, sound}
+use Rattle.lincomb.proofs.Results.{Opens, opens, shuts}
 use Rattle.compare.specs.Comparison.{named, refusedComparison, comparedOf}
 use Rattle.compare.proofs.Naming.{named-same}
 use Rattle.compare.proofs.Differing.{Differ, lists-differing, lists-difference}

@@ -6,6 +6,7 @@ ghost use mathlib.Core.Path.{_≡_};
 ghost use mathlib.Core.Bool.{true};
 ghost use Rattle.normal.specs.Normal.{dropZeros};
 ghost use Rattle.lincomb.specs.Merging.{Sound, onward};
+ghost use Rattle.record.specs.Reading.{Sound};
 ghost use Rattle.compare.specs.Comparison.{ahead, named, refusedComparison, comparedOf};
 ghost use Rattle.compare.specs.Finding.{withTerm};
 

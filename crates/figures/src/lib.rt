@@ -4,8 +4,8 @@ use modes::Term;
 use record::Tested;
 ghost use mathlib.Core.Path.{_≡_};
 ghost use Prim.Native.Nat.{_+_, _*_, _≤_, max};
-ghost use lib.ListN.{length};
 ghost use Rattle.record.specs.Layout.{termsIn};
+ghost use Rattle.record.specs.Reading.{Holds};
 ghost use Rattle.record.specs.Operands.{readAs};
 ghost use Rattle.figures.specs.Figures.{rankOf, conserves, figuresIn, figuresOf, conservesOf, maxNBodyOf, activeModesOf};
 
@@ -44,7 +44,7 @@ struct Figures {
 
 // The figures of n terms, in one walk.
 fn survey_terms(s: &[u8], n: usize) -> Figures
-    requires { ⌜ 32 + 24 * n ≤ length (now s) ⌝ }
+    requires { ⌜ Holds (now s) n ⌝ }
     ensures { λ r. ⌜ r ≡ figuresIn (termsIn (now (s .entry)) n) ⌝ }
 {
     let mut conserving = true;

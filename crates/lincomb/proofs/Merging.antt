@@ -13,7 +13,7 @@ use Rattle.modes.specs.Every.{Every, none, more}
 use Rattle.modes.proofs.Every.{every-map}
 use Rattle.record.specs.Terms.{before, Above, Ascending, empty, above}
 use Rattle.record.specs.Layout.{termsIn}
-use Rattle.record.specs.Reading.{At}
+use Rattle.record.specs.Reading.{Sound, At}
 use Rattle.record.proofs.Order.{Compared, less, same, greater, compare, above-trans, before-one-way}
 use Rattle.products.proofs.Signs.{abs-signed}
 use Rattle.record.specs.Coefficients.{coeffIn}
@@ -23,8 +23,8 @@ use Rattle.normal.specs.Normal.{join, dropZeros, normal}
 use Rattle.normal.proofs.Totals.{coeff-drop}
 use Rattle.normal.proofs.Normal.{Joins, above-joins, ascending-drop, nonzero-drop, normal-is}
 use Rattle.lincomb.specs.Sums.{turn}
-use Rattle.lincomb.specs.Merging.{merge, Sound, onward, taken, Pulled}
-use Rattle.lincomb.proofs.Totals.{coeff-merge}
+use Rattle.lincomb.specs.Merging.{merge, onward, taken, Pulled}
+use Rattle.lincomb.proofs.Totals.{coeff-merge, coeff-drop}
 
 -- signs change no order
 pub ascending-turn : (minus : Bool) (ts : List Term) → Ascending ts → Ascending (map (turn minus) ts)

@@ -147,10 +147,6 @@ module _ (a b : List ℕ) (p : Opened) (ep : p ≡ openedOf a b) where
           }
       go false q e = absurd (eqb-false _ _ q (ap (λ (x : Opened). x .refusal .number) (sym e) ∙ z))
 
--- the terms of an accepted record can be read, and weigh no more than the ceiling
-pub sound : (o : ℕ) (l : List ℕ) (n : ℕ) → (refusalOf o l) .number ≡ 0 → n ≡ countOf l → Sound l n
-sound o l n e q = record { size = omega (arith, accepted-laid o l e .size); light = rw q (accepted-canonical o l e .light) }
-
 -- ---- 10, 9 and 11
 
 module _ (room n w : ℕ) where

@@ -16,21 +16,23 @@ use Rattle.lent.specs.Outputs.{refusedOutput, filledOutput, Gives}
 use Rattle.products.specs.Operators.{signed, part, element}
 use Rattle.record.specs.Terms.{weight}
 use Rattle.record.specs.Layout.{encode, modesOf, termsOf}
+use Rattle.record.specs.Reading.{Sound}
 use Rattle.record.specs.Refusals.{refusalOf}
 use Rattle.record.specs.Canonical.{Inside, Canonical}
-use Rattle.record.proofs.Accepted.{accepted-canonical}
+use Rattle.record.proofs.Accepted.{accepted-canonical, sound}
 use Rattle.record.proofs.Outputs.{refused-earlier, refused-late, delivers, none-refused, output-accepted, output-modes, output-terms}
-use Rattle.normal.specs.Normal.{dropZeros}
+use Rattle.normal.specs.Normal.{dropZeros, join, normal}
 use Rattle.normal.proofs.Totals.{element-normal}
 use Rattle.lincomb.specs.Results.{pairRefusal, resultRefusal, openedOf}
 use Rattle.lincomb.specs.Sums.{turn, sumTerms, combined, added, subtracted}
-use Rattle.lincomb.specs.Merging.{Sound, onward}
+use Rattle.lincomb.specs.Merging.{onward}
 use Rattle.lincomb.specs.Tallies.{Tallied}
 use Rattle.lincomb.specs.declared.Opened.{Opened}
 use Rattle.lincomb.specs.declared.Tally.{Tally}
-use Rattle.lincomb.proofs.Totals.{element-turn}
+use Rattle.lincomb.proofs.Totals.{element-turn, element-normal}
 use Rattle.lincomb.proofs.Merging.{ascending-turn, merge-normal}
-use Rattle.lincomb.proofs.Results.{Opens, opens, shuts, sound, first-fine, second-fine, same-modes, Deliverable, deliverable, verdict-same, result-canonical}
+use Rattle.lincomb.proofs.Results.{Opens, opens, shuts, sound, first-fine, second-fine, same-modes, Deliverable, deliverable, verdict-same, result-canonical, refused-earlier, refused-late, delivers, result-earlier, result-accepted, result-modes, result-terms}
+use Rattle.lincomb.proofs.Normal.{every-normal, ascending-turn, normal-ascending, normal-nonzero}
 
 -- ---- each way through the call
 

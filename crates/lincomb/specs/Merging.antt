@@ -1,11 +1,11 @@
 -- How the code goes through two records in step: for inner functions only.
 use mathlib.Core.Path.{_≡_}
-use Prim.Native.Nat.{ℕ, _+_, _*_, _^_, _≤_, _<_}
+use Prim.Native.Nat.{ℕ, _+_, _≤_, _<_}
 use mathlib.Core.Bool.{Bool, cond}
 use mathlib.Core.List.{List, [], _∷_, map}
-use lib.ListN.{length, drop}
+use lib.ListN.{drop}
 use Rattle.modes.specs.declared.Term.{Term}
-use Rattle.record.specs.Terms.{before, weight}
+use Rattle.record.specs.Terms.{before}
 use Rattle.record.specs.Layout.{termsIn}
 use Rattle.normal.specs.Normal.{join}
 use Rattle.lincomb.specs.Sums.{turn}
@@ -20,11 +20,6 @@ merge (t ∷ ts) (u ∷ us) =
     let second = merge (t ∷ ts) us in
     let both = merge ts us in
     cond (before t u) (t ∷ first) (cond (before u t) (u ∷ second) (join t u ∷ both))
-
--- n terms can be read from l, and their weight is not above the ceiling
-pub record Sound (l : List ℕ) (n : ℕ) : Type 0 where
-  pub size : 32 + 24 * n ≤ length l
-  pub light : weight (termsIn l n) ≤ 2 ^ 60
 
 -- what is left of the merged terms once i terms of the first and j of the second are taken
 abbrev pub onward : Bool → List ℕ → ℕ → List ℕ → ℕ → ℕ → ℕ → List Term

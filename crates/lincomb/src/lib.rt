@@ -12,10 +12,11 @@ ghost use lib.ListN.{length};
 ghost use Rattle.lent.specs.Bytes.{put};
 ghost use Rattle.lent.specs.Outputs.{Gives, filledOutput};
 ghost use Rattle.record.specs.Layout.{columns, encode};
-ghost use Rattle.normal.specs.Normal.{dropZeros};
+ghost use Rattle.normal.specs.Normal.{dropZeros, join};
+ghost use Rattle.record.specs.Reading.{Holds, Sound};
 ghost use Rattle.lincomb.specs.Results.{shut, openedOf, resultRefusal};
 ghost use Rattle.lincomb.specs.Sums.{turn, combined, added, subtracted};
-ghost use Rattle.lincomb.specs.Merging.{Sound, onward, Pulled};
+ghost use Rattle.lincomb.specs.Merging.{onward, Pulled};
 ghost use Rattle.lincomb.specs.Tallies.{Tallied};
 
 // Two records once both are checked: the refusal, or none with their modes, their numbers of terms and their weights.
@@ -195,7 +196,7 @@ fn count_terms(sign: Sign, a: &[u8], na: usize, b: &[u8], nb: usize) -> Tally
 // The result's terms, of which there are n, to their columns.
 fn put_terms(sign: Sign, a: &[u8], na: usize, b: &[u8], nb: usize, out: &mut [u8], n: usize)
     requires { ⌜ Sound (now a) na × Sound (now b) nb ⌝ }
-    requires { ⌜ (n ≡ length (dropZeros (onward (sign .0) (now a) na (now b) nb 0 0))) × (32 + 24 * n ≤ length (now out)) ⌝ }
+    requires { ⌜ (n ≡ length (dropZeros (onward (sign .0) (now a) na (now b) nb 0 0))) × Holds (now out) n ⌝ }
     ensures { λ _. ⌜ now (out .exit) ≡ put (now (out .entry)) 32 (columns (dropZeros (onward (sign .0) (now (a .entry)) na (now (b .entry)) nb 0 0))) ⌝ }
 {
     let mut i = 0;
@@ -225,7 +226,7 @@ fn write_sum(
     n: usize,
 ) -> Written
     requires { ⌜ Sound (now a) na × Sound (now b) nb ⌝ }
-    requires { ⌜ (n ≡ length (dropZeros (onward (sign .0) (now a) na (now b) nb 0 0))) × (32 + 24 * n ≤ length (now out)) × (n ≤ 2048) ⌝ }
+    requires { ⌜ (n ≡ length (dropZeros (onward (sign .0) (now a) na (now b) nb 0 0))) × Holds (now out) n × (n ≤ 2048) ⌝ }
     ensures { λ r. ⌜ Gives (filledOutput (length (now (out .entry))) 0 (encode m (dropZeros (onward (sign .0) (now (a .entry)) na (now (b .entry)) nb 0 0)))) r (now (out .exit)) ⌝ }
 {
     record::put_header(out, m, n);

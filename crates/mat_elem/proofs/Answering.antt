@@ -16,6 +16,7 @@ use Rattle.record.specs.declared.Checked.{Checked}
 use Rattle.modes.proofs.Refusals.{or-first, or-second, second-refuses, neither-refuses, first-refuses}
 use Rattle.record.proofs.Accepted.{Accepted, accepted, readable, refused, refusal-told}
 use Rattle.modes.specs.Spaces.{wordsRefusal}
+use Rattle.record.specs.Reading.{Sound}
 use Rattle.mat_elem.specs.Elements.{elementRefusal, refusedElement, elementOf}
 use Rattle.mat_elem.specs.declared.Exact.{Exact}
 
@@ -27,8 +28,8 @@ module _ (a : List ℕ) (bra ket : ℕ) (c : Checked) (e : c ≡ checkedOf 1 a) 
     ok : Accepted 1 a c
     ok = accepted 1 a c e z
 
-    pub terms-held : (32 + 24 * c .terms ≤ length a) × (weight (termsIn a (c .terms)) ≤ 2 ^ 60)
-    terms-held = (readable 1 a c ok .0, rw (ok .terms) (ok .canonical .light))
+    pub terms-held : Sound a (c .terms)
+    terms-held = ok .held
 
     module _ (r : Refusal) (f : r ≡ wordsRefusal (c .modes) bra ket) where
       of-words : r ≡ wordsRefusal (modesOf a) bra ket

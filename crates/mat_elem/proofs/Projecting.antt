@@ -18,6 +18,7 @@ use Rattle.record.specs.Refusals.{refusalOf, checkedOf}
 use Rattle.record.specs.declared.Checked.{Checked}
 use Rattle.modes.proofs.Refusals.{or-first, or-second, neither, second-refuses, neither-refuses, first-refuses, needed}
 use Rattle.record.proofs.Accepted.{Accepted, accepted, readable, refused, refusal-told}
+use Rattle.record.specs.Reading.{Sound}
 use Rattle.mat_elem.specs.Matrix.{outsideAt, repeatAt, basisRefusal, matrixOf, refusedMatrix, projectedRefusal, projectedOf}
 use Rattle.mat_elem.specs.declared.Projected.{Projected}
 
@@ -62,9 +63,9 @@ module _ (a basis : List ℕ) (c : Checked) (e : c ≡ checkedOf 1 a) where
     basis-refused n = rw of-basis (second-refuses (refusalOf 1 a) _ refusedMatrix _ (ok .number) (rw of-basis at n))
 
     module _ (y : r .number ≡ 0) where
-      pub to-project : (32 + 24 * c .terms ≤ length a) × (weight (termsIn a (c .terms)) ≤ 2 ^ 60) × (length basis ≤ 8)
+      pub to-project : Sound a (c .terms) × (length basis ≤ 8)
       to-project =
-          (readable 1 a c ok .0, rw (ok .terms) (ok .canonical .light), basis-short (c .modes) basis (ap (λ (x : Refusal). x .number) (sym f) ∙ y))
+          (ok .held, basis-short (c .modes) basis (ap (λ (x : Refusal). x .number) (sym f) ∙ y))
 
       pub projected : (p : Projected) → (p .refusal ≡ none) × (p .rows ≡ matrixOf (termsIn a (c .terms)) basis) → p ≡ projectedOf (readAs 1 a) basis
       projected p g =

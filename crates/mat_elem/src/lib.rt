@@ -9,11 +9,11 @@ ghost use lib.IntN.{natAbs};
 ghost use lib.ListN.{length, getD, take};
 ghost use Rattle.products.specs.Operators.{part, element};
 ghost use Rattle.modes.specs.Answers.{none};
-ghost use Rattle.record.specs.Terms.{weight};
 ghost use Rattle.record.specs.Layout.{termsIn};
 ghost use Rattle.record.specs.Operands.{readAs};
 ghost use Rattle.modes.specs.Refusals.{firstRefusal};
 ghost use Rattle.modes.specs.Spaces.{wordRefusal, wordsRefusal};
+ghost use Rattle.record.specs.Reading.{Sound};
 ghost use Rattle.mat_elem.specs.Elements.{refusedElement, elementOf};
 ghost use Rattle.mat_elem.specs.Matrix.{outsideAt, stands, repeatAt, basisRefusal, rowOf, matrixOf, refusedMatrix, projectedOf};
 
@@ -47,7 +47,7 @@ fn part_of(t: Term, bra: u64, ket: u64) -> i64
 
 // What n terms add. The sum stays within their weight, so that it never wraps.
 fn sum_parts(s: &[u8], n: usize, bra: u64, ket: u64) -> i64
-    requires { ⌜ (32 + 24 * n ≤ length (now s)) × (weight (termsIn (now s) n) ≤ 2 ^ 60) ⌝ }
+    requires { ⌜ Sound (now s) n ⌝ }
     ensures { λ r. ⌜ r ≡ element bra ket (termsIn (now (s .entry)) n) ⌝ }
 {
     let mut sum: i64 = 0;
@@ -174,7 +174,7 @@ fn basis_refusal(space: ModeSpace, basis: &[u64]) -> Refusal
 
 // The row of one bra over n terms.
 fn row_of(a: &[u8], n: usize, basis: &[u64], bra: u64) -> Row
-    requires { ⌜ (32 + 24 * n ≤ length (now a)) × (weight (termsIn (now a) n) ≤ 2 ^ 60) × (length (now basis) ≤ 8) ⌝ }
+    requires { ⌜ Sound (now a) n × (length (now basis) ≤ 8) ⌝ }
     ensures { λ r. ⌜ r ≡ rowOf (termsIn (now (a .entry)) n) (now (basis .entry)) bra ⌝ }
 {
     let mut entries = [0i64; 8];
@@ -190,7 +190,7 @@ fn row_of(a: &[u8], n: usize, basis: &[u64], bra: u64) -> Row
 
 // The rows of all basis words.
 fn project(a: &[u8], n: usize, basis: &[u64]) -> Projected
-    requires { ⌜ (32 + 24 * n ≤ length (now a)) × (weight (termsIn (now a) n) ≤ 2 ^ 60) × (length (now basis) ≤ 8) ⌝ }
+    requires { ⌜ Sound (now a) n × (length (now basis) ≤ 8) ⌝ }
     ensures { λ r. ⌜ (r .refusal ≡ none) × (r .rows ≡ matrixOf (termsIn (now (a .entry)) n) (now (basis .entry))) ⌝ }
 {
     let mut rows = [Row { entries: [0i64; 8] }; 8];

@@ -23,7 +23,10 @@ use Rattle.normal.specs.Normal.{normal}
 use Rattle.normal.proofs.Normal.{normal-same}
 use Rattle.lincomb.specs.Results.{pairRefusal, resultOf, openedOf}
 use Rattle.lincomb.specs.declared.Opened.{Opened}
-use Rattle.lincomb.proofs.Results.{Opens, opens, shuts, sound}
+use Rattle.lincomb.proofs.Results.{Opens, opens, shuts, sound, refused-earlier}
+use Rattle.record.specs.Reading.{Holds}
+use Rattle.record.proofs.Accepted.{sound}
+use Rattle.lincomb.proofs.Normal.{normal-is}
 use Rattle.joins.specs.Collected.{Collected}
 use Rattle.joins.specs.KeyWeights.{Light}
 use Rattle.pairs.specs.Products.{allRows, allBranches}
@@ -83,10 +86,10 @@ module _ (both minus : Bool) (a b : List ℕ) (work room : ℕ) (p : Opened) (ep
         after-heavy : earlyRefusal both work a b ≡ workRefusal work branches
         after-heavy = after-pair ∙ or-second heavy _ (ap (λ (r : Refusal). r .number) (sym heavy-is) ∙ zh)
 
-        pub left-size : 32 + 24 * p .left ≤ length a
+        pub left-size : Holds a (p .left)
         left-size = sound 1 a (p .left) (ready .one) (ready .left) .size
 
-        pub right-size : 32 + 24 * p .right ≤ length b
+        pub right-size : Holds b (p .right)
         right-size = sound 2 b (p .right) (ready .two) (ready .right) .size
 
         pub weights-light : weight (termsIn a (p .left)) * weight (termsIn b (p .right)) ≤ 2 ^ 60

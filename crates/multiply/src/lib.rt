@@ -12,6 +12,7 @@ ghost use Rattle.lent.specs.Bytes.{put, zeros};
 ghost use Rattle.lent.specs.Rows.{rowsAt};
 ghost use Rattle.lent.specs.Outputs.{Gives};
 ghost use Rattle.record.specs.Layout.{columns};
+ghost use Rattle.record.specs.Reading.{Holds};
 ghost use Rattle.lincomb.specs.Results.{resultOf};
 ghost use Rattle.lincomb.specs.Tallies.{Tallied};
 ghost use Rattle.multiply.specs.Answers.{weightRefusal, productAnswer, productOf, commutatorOf, anticommutatorOf, Leaves};
@@ -47,7 +48,7 @@ fn tally(work: &[u8], n: usize) -> Tally
 
 // The n rows at the front of the work, to their columns.
 fn put_terms(work: &[u8], n: usize, out: &mut [u8])
-    requires { ⌜ (24 * n ≤ length (now work)) × (32 + 24 * n ≤ length (now out)) ⌝ }
+    requires { ⌜ (24 * n ≤ length (now work)) × Holds (now out) n ⌝ }
     ensures { λ _. ⌜ now (out .exit) ≡ put (now (out .entry)) 32 (columns (rowsAt (now (work .entry)) 0 n)) ⌝ }
 {
     let mut i = 0;

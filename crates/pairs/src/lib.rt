@@ -13,6 +13,7 @@ ghost use Rattle.products.specs.Product.{rowsTimes};
 ghost use Rattle.products.specs.Fitting.{rowsOf};
 ghost use Rattle.record.specs.Terms.{weight};
 ghost use Rattle.record.specs.Layout.{termsIn};
+ghost use Rattle.record.specs.Reading.{Holds};
 ghost use Rattle.pairs.specs.Products.{pairRows, rowsWith, allRows};
 ghost use Rattle.pairs.specs.Filling.{Room, Grown, Adds, Appended, Opposite, Settled};
 
@@ -143,7 +144,7 @@ fn append_with(
     b: &[u8],
     n: usize,
 ) -> Fill
-    requires { ⌜ Room (now work) s × (32 + 24 * n ≤ length (now b)) × (natAbs (t .coeff) * weight (termsIn (now b) n) ≤ 2 ^ 60) ⌝ }
+    requires { ⌜ Room (now work) s × Holds (now b) n × (natAbs (t .coeff) * weight (termsIn (now b) n) ≤ 2 ^ 60) ⌝ }
     ensures { λ r. ⌜ Adds (rowsWith both (sign .0) t (termsIn (now (b .entry)) n)) (now (work .entry)) s (now (work .exit)) r ⌝ }
 {
     let mut at = s;
@@ -169,7 +170,7 @@ pub fn append_all(
     b: &[u8],
     nb: usize,
 ) -> Fill
-    requires { ⌜ (32 + 24 * na ≤ length (now a)) × (32 + 24 * nb ≤ length (now b)) × (weight (termsIn (now a) na) * weight (termsIn (now b) nb) ≤ 2 ^ 60) ⌝ }
+    requires { ⌜ Holds (now a) na × Holds (now b) nb × (weight (termsIn (now a) na) * weight (termsIn (now b) nb) ≤ 2 ^ 60) ⌝ }
     ensures { λ r. ⌜ Grown (allRows both (sign .0) (termsIn (now (a .entry)) na) (termsIn (now (b .entry)) nb)) (now (work .exit)) r ⌝ }
 {
     let mut at = Fill { used: 0, held: 0 };

@@ -18,6 +18,7 @@ use Rattle.record.specs.Layout.{laidOut, modesOf, countOf, termsIn, term
 use Rattle.modes.specs.Refusals.{orElse, need}
 use Rattle.modes.specs.Spaces.{inside}
 use Rattle.record.specs.Refusals.{termRefusal, termsRefusal, refusalOf, acceptedRecord, refusedRecord, checkedOf}
+use Rattle.record.specs.Reading.{Holds, Sound}
 use Rattle.record.specs.Canonical.{Inside, Nonzero, Canonical}
 use Rattle.record.specs.declared.Checked.{Checked}
 use Rattle.modes.proofs.Refusals.{or-second, neither, not-refused, either-way, needed}
@@ -138,6 +139,10 @@ module _ (o : ℕ) (l : List ℕ) (e : (refusalOf o l) .number ≡ 0) where
       rw (is-laid, none-refused o (modesOf l) 0 (λ _. true) (termsOf l) (right .begins) (right .inside) (right .ascending) (right .nonzero), le-leb _ _ is-light)
       (or-second unrefused _ refl ∙ or-second unrefused _ refl)
 
+-- its terms can be read, and weigh no more than the ceiling
+pub sound : (o : ℕ) (l : List ℕ) (n : ℕ) → (refusalOf o l) .number ≡ 0 → n ≡ countOf l → Sound l n
+sound o l n e q = record { size = omega (arith, accepted-laid o l e .size); light = rw q (accepted-canonical o l e .light) }
+
 -- a check that found none
 pub record Accepted (o : ℕ) (l : List ℕ) (c : Checked) : Type 0 where
   pub number : (refusalOf o l) .number ≡ 0
@@ -145,6 +150,7 @@ pub record Accepted (o : ℕ) (l : List ℕ) (c : Checked) : Type 0 where
   pub canonical : Canonical (modesOf l) (termsOf l)
   pub none : refusalOf o l ≡ unrefused
   pub is : c ≡ acceptedRecord l
+  pub held : Sound l (c .terms)
   -- the terms of the number that the check answers
   pub terms : termsIn l (c .terms) ≡ termsOf l
 
@@ -158,13 +164,13 @@ accepted o l c e z =
       canonical = accepted-canonical o l n;
       none = accepted-none o l n;
       is = found .1;
+      held = sound o l (c .terms) n (ap (λ (d : Checked). d .terms) (found .1));
       terms = ap (λ (d : Checked). termsIn l (d .terms)) (found .1);
     }
 
 -- its terms can be read, and they ascend
-pub readable : (o : ℕ) (l : List ℕ) (c : Checked) → Accepted o l c → (32 + 24 * c .terms ≤ length l) × Ascending (termsIn l (c .terms))
-readable o l c k =
-    (omega (arith, k .laid .size, ap (λ (d : Checked). d .terms) (k .is)), rw (k .terms) (k .canonical .ascending))
+pub readable : (o : ℕ) (l : List ℕ) (c : Checked) → Accepted o l c → Holds l (c .terms) × Ascending (termsIn l (c .terms))
+readable o l c k = (k .held .size, rw (k .terms) (k .canonical .ascending))
 
 -- a check tells the record's refusal
 pub refusal-told : (o : ℕ) (l : List ℕ) (c : Checked) → c ≡ checkedOf o l → c .refusal ≡ refusalOf o l

@@ -13,6 +13,10 @@ use Rattle.modes.specs.Spaces.{spaceOf, isMade}
 use Rattle.lent.specs.Bytes.{bytes, halfAt, put}
 use Rattle.record.specs.Numbers.{stored, numbers, sameNumbers}
 
+-- how many bytes a record of n terms has
+abbrev pub recordLength : ℕ → ℕ
+recordLength n = 32 + 24 * n
+
 -- version, modes, terms, offsets of annihilations, creations and coefficients, total, zero
 abbrev pub fields : ℕ → ℕ → List ℕ
 fields m n = 1 ∷ m ∷ n ∷ 32 ∷ (32 + 8 * n) ∷ (32 + 16 * n) ∷ (32 + 24 * n) ∷ 0 ∷ []

@@ -15,7 +15,7 @@ ghost use Rattle.record.specs.Terms.{before, Ascending};
 ghost use Rattle.record.specs.Layout.{fields, header, modesOf, countOf, termsIn, termsOf, laidOut, putTerm};
 ghost use Rattle.modes.specs.Spaces.{inside};
 ghost use Rattle.record.specs.Refusals.{termRefusal, refusalOf, refusedRecord, checkedOf};
-ghost use Rattle.record.specs.Reading.{At};
+ghost use Rattle.record.specs.Reading.{At, Holds};
 ghost use Rattle.record.specs.Weights.{heavierBy};
 ghost use Rattle.record.specs.Blocks.{countIf, earlier, annBelow, blockOf, bytesIn};
 
@@ -107,7 +107,7 @@ fn laid_out(s: &[u8]) -> bool
 
 // The i-th of n terms. Whatever reads a record reads it by this.
 pub fn read_term(s: &[u8], n: usize, i: usize) -> Term
-    requires { ⌜ (32 + 24 * n ≤ length (now s)) × (i < n) ⌝ }
+    requires { ⌜ Holds (now s) n × (i < n) ⌝ }
     ensures { λ r. ⌜ At (termsIn (now (s .entry)) n) i r ⌝ }
 {
     let ann = lent::word(s, 32 + 8 * i);
@@ -256,7 +256,7 @@ pub fn put_header(out: &mut [u8], m: u64, n: usize)
 
 // The k-th of n terms to its three columns.
 pub fn put_term(out: &mut [u8], n: usize, k: usize, t: Term)
-    requires { ⌜ (32 + 24 * n ≤ length (now out)) × (k < n) ⌝ }
+    requires { ⌜ Holds (now out) n × (k < n) ⌝ }
     ensures { λ _. ⌜ now (out .exit) ≡ putTerm (now (out .entry)) n k t ⌝ }
 {
     lent::put_word(out, 32 + 8 * k, t.ann);
@@ -266,7 +266,7 @@ pub fn put_term(out: &mut [u8], n: usize, k: usize, t: Term)
 
 // How many of the n terms stand before t, found by halving.
 pub fn count_before(s: &[u8], n: usize, t: Term) -> usize
-    requires { ⌜ (32 + 24 * n ≤ length (now s)) × Ascending (termsIn (now s) n) ⌝ }
+    requires { ⌜ Holds (now s) n × Ascending (termsIn (now s) n) ⌝ }
     ensures { λ r. ⌜ r ≡ countIf (earlier t) (termsIn (now (s .entry)) n) ⌝ }
 {
     let mut low = 0;
@@ -285,7 +285,7 @@ pub fn count_before(s: &[u8], n: usize, t: Term) -> usize
 
 // How many have an annihilation word below `ann`: those before the first term that could have it.
 fn count_below(s: &[u8], n: usize, ann: u64) -> usize
-    requires { ⌜ (32 + 24 * n ≤ length (now s)) × Ascending (termsIn (now s) n) ⌝ }
+    requires { ⌜ Holds (now s) n × Ascending (termsIn (now s) n) ⌝ }
     ensures { λ r. ⌜ r ≡ countIf (annBelow ann) (termsIn (now (s .entry)) n) ⌝ }
 {
     count_before(
@@ -301,7 +301,7 @@ fn count_below(s: &[u8], n: usize, ann: u64) -> usize
 
 // How many have one up to `ann`: all if it is the largest word, which has none after it.
 fn count_up_to(s: &[u8], n: usize, ann: u64) -> usize
-    requires { ⌜ (32 + 24 * n ≤ length (now s)) × Ascending (termsIn (now s) n) ⌝ }
+    requires { ⌜ Holds (now s) n × Ascending (termsIn (now s) n) ⌝ }
     ensures { λ r. ⌜ r ≡ countIf (annBelow (ann + 1)) (termsIn (now (s .entry)) n) ⌝ }
 {
     if ann == u64::MAX {

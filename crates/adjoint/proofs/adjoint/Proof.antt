@@ -4,7 +4,7 @@ use native.Mathlib.Omega.{arith}
 use lib.ListN.{length}
 use Rattle.lent.specs.Outputs.{Output, Gives}
 use Rattle.record.proofs.Accepted.{accepted}
-use Rattle.adjoint.proofs.Adjointed.{adjointed-refused, canonical, fits-in, few, adjointed-short, adjointed-filled}
+use Rattle.adjoint.proofs.Adjointed.{adjointed-refused, canonical, few, adjointed-short, adjointed-filled}
 use borrow.Author.Needs.{needs}
 use Rattle.adjoint.proofs.adjoint.Statement.{statement}
 use Rattle.adjoint.proofs.adjoint.Tie as tie
@@ -47,7 +47,7 @@ write-adjoint-requires : tie.Need-write-adjoint-requires
 write-adjoint-requires c κs =
     let s = c .before .before .before .before .before .before .before in
     let k = accepted 1 (s .args .a .now) _ (c .before .before .before .before .check .ensures) (c .before .before .if1 .left) in
-    (fits-in 0 (s .args .a .now) _ k, c .before .if2 .left, canonical 0 (s .args .a .now) _ k)
+    (k .held .size, c .before .if2 .left, canonical 0 (s .args .a .now) _ k)
 
 same-length-3 : tie.Need-same-length-3
 same-length-3 c = search needs

@@ -15,7 +15,7 @@ returns : tie.Need-returns
 returns c = survey-refused _ _ (c .before .before .before .check .ensures) (c .before .if1 .taken)
 
 survey-terms-requires : tie.Need-survey-terms-requires
-survey-terms-requires c κs = let k = accepted 1 _ _ (c .before .before .check .ensures) (c .if1 .left) in omega (arith, k .laid .size, ap (λ (d : Checked). d .terms) (k .is))
+survey-terms-requires c κs = accepted 1 _ _ (c .before .before .check .ensures) (c .if1 .left) .held .size
 
 returns-2 : tie.Need-returns-2
 returns-2 c = c .survey-terms .ensures ∙ survey-accepted _ _ (accepted 1 _ _ (c .before .before .before .check .ensures) (c .before .if1 .left))

@@ -44,14 +44,14 @@ loop-again : tie.Need-loop-again Inv-loop μ-loop
 loop-again c =
     let s = c .before .before .before .before .before .before in
     let l = c .before .before .before .loop in
-    (search needs, fills-word _ _ (s .args .basis .now) (s .pre .2) (l .i) (l .rows) (l .inv .1) _ (c .before .before .loop-test .taken) (c .row-of .ensures))
+    (search needs, fills-word _ _ (s .args .basis .now) (s .pre .1) (l .i) (l .rows) (l .inv .1) _ (c .before .before .loop-test .taken) (c .row-of .ensures))
 
 returns : tie.Need-returns Inv-loop μ-loop
 unfolding matrixOf
 returns c =
     let s = c .before .before .before .before in
     let l = c .before .loop in
-    (refl, filled-words _ _ (s .args .basis .now) (s .pre .2) (l .i) (l .rows) (l .inv .1) (l .inv .0) (c .loop-test .left))
+    (refl, filled-words _ _ (s .args .basis .now) (s .pre .1) (l .i) (l .rows) (l .inv .1) (l .inv .0) (c .loop-test .left))
 
 pub project-spec : {M : Type 1} → statement M
 project-spec =

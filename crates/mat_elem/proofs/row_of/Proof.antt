@@ -50,14 +50,14 @@ loop-again c =
     let s = c .before .before .before .before .before .before in
     let l = c .before .before .before .loop in
     let small : SFits w64 (c .sum-parts .result) = record { sfits = c .sum-parts .ok } in
-    (search needs, fills-word _ _ (s .args .basis .now) (s .pre .2) (l .j) (l .entries) (l .inv .1) _ (c .before .before .loop-test .taken) (toZ-ofZ small ∙ c .sum-parts .ensures))
+    (search needs, fills-word _ _ (s .args .basis .now) (s .pre .1) (l .j) (l .entries) (l .inv .1) _ (c .before .before .loop-test .taken) (toZ-ofZ small ∙ c .sum-parts .ensures))
 
 returns : tie.Need-returns Inv-loop μ-loop
 unfolding rowOf
 returns c =
     let s = c .before .before .before .before in
     let l = c .before .loop in
-    ap (λ (v : List ℤ). record { entries = v }) (filled-words _ _ (s .args .basis .now) (s .pre .2) (l .j) (l .entries) (l .inv .1) (l .inv .0) (c .loop-test .left))
+    ap (λ (v : List ℤ). record { entries = v }) (filled-words _ _ (s .args .basis .now) (s .pre .1) (l .j) (l .entries) (l .inv .1) (l .inv .0) (c .loop-test .left))
 
 pub row-of-spec : {M : Type 1} → statement M
 row-of-spec =

@@ -20,10 +20,10 @@ abbrev μ-loop : tie.MeasureT-loop
 μ-loop s n bra ket sum₀ i₀ sum i = n - i
 
 loop-holds : tie.Need-loop-holds Inv-loop μ-loop
-loop-holds c = (zero-le, sum-starts (c .before .args .bra) (c .before .args .ket) (termsIn (c .before .args .s .now) (c .before .args .n)) (c .before .pre .1))
+loop-holds c = (zero-le, sum-starts (c .before .args .bra) (c .before .args .ket) (termsIn (c .before .args .s .now) (c .before .args .n)) (c .before .pre .light))
 
 read-term-requires : tie.Need-read-term-requires Inv-loop μ-loop
-read-term-requires c κs = let s = c .before .before .before in (s .pre .0, c .loop-test .taken)
+read-term-requires c κs = let s = c .before .before .before in (s .pre .size, c .loop-test .taken)
 
 part-of-requires : tie.Need-part-of-requires Inv-loop μ-loop
 part-of-requires c κs =
