@@ -4,18 +4,17 @@ use modes::Sign;
 use modes::Term;
 use modes::Written;
 use record::Tested;
-use rows::Places;
 ghost use mathlib.Core.Path.{_≡_};
-ghost use mathlib.Core.List.{_++_, map};
-ghost use Prim.Native.Nat.{_+_, _*_, _-_, _≤_, _<_};
+ghost use mathlib.Core.List.{map};
+ghost use Prim.Native.Nat.{_≤_};
 ghost use lib.ListN.{length};
 ghost use Rattle.modes.specs.Words.{bit};
 ghost use Rattle.modes.specs.Counts.{count, pairs};
 ghost use Rattle.lent.specs.Bytes.{put, zeros};
 ghost use Rattle.modes.specs.Every.{Every};
-ghost use Rattle.lent.specs.Outputs.{Gives};
+ghost use Rattle.lent.specs.Outputs.{Gives, filledOutput};
 ghost use Rattle.record.specs.Terms.{Ascending};
-ghost use Rattle.record.specs.Layout.{columns, encode, termsIn};
+ghost use Rattle.record.specs.Layout.{encode, termsIn};
 ghost use Rattle.record.specs.Reading.{Holds};
 ghost use Rattle.record.specs.Canonical.{Canonical};
 ghost use Rattle.adjoint.specs.Adjoint.{Negatable, adjointTerm, adjointTerms, adjointed};
@@ -46,10 +45,10 @@ fn adjoint_term(t: Term) -> Term
     }
 }
 
-// The adjoint terms to the output's columns, in the record's own order.
+// The adjoint terms to the output, in the record's own order.
 fn put_adjoint_terms(a: &[u8], n: usize, out: &mut [u8])
     requires { ⌜ Holds (now a) n × Holds (now out) n × Every Negatable (termsIn (now a) n) ⌝ }
-    ensures { λ _. ⌜ now (out .exit) ≡ put (now (out .entry)) 32 (columns (map adjointTerm (termsIn (now (a .entry)) n))) ⌝ }
+    ensures { λ _. ⌜ termsIn (now (out .exit)) n ≡ map adjointTerm (termsIn (now (a .entry)) n) ⌝ }
 {
     let mut i = 0;
     while i < n {
@@ -60,15 +59,14 @@ fn put_adjoint_terms(a: &[u8], n: usize, out: &mut [u8])
     }
 }
 
-// The adjoint's record to the front, sorted where it stands, and zeros past it.
-fn write_adjoint(a: &[u8], m: u64, n: usize, out: &mut [u8])
+// The adjoint's record, its terms sorted where they stand.
+fn write_adjoint(a: &[u8], m: u64, n: usize, out: &mut [u8]) -> Written
     requires { ⌜ Holds (now a) n × Holds (now out) n × Canonical m (termsIn (now a) n) ⌝ }
-    ensures { λ _. ⌜ now (out .exit) ≡ encode m (adjointTerms (termsIn (now (a .entry)) n)) ++ zeros (length (now (out .entry)) - (32 + 24 * n)) ⌝ }
+    ensures { λ r. ⌜ Gives (filledOutput (length (now (out .entry))) 0 (encode m (adjointTerms (termsIn (now (a .entry)) n)))) r (now (out .exit)) ⌝ }
 {
-    record::put_header(out, m, n);
     put_adjoint_terms(a, n, out);
-    rows::sort(out, Places::columns(n), n);
-    lent::wipe_from(out, 32 + 24 * n);
+    record::sort_terms(out, n);
+    record::finish(out, m, n, 0)
 }
 
 // The adjoint of a record, as a record.
@@ -81,16 +79,10 @@ pub fn adjoint(a: &[u8], out: &mut [u8]) -> Written
         return lent::refuse(out, refusal);
     }
     let n = c.terms;
-    let len = 32 + 24 * n;
-    if out.len() < len {
+    if out.len() < record::length_of(n) {
         return lent::refuse(out, Refusal::OUTPUT_TOO_SHORT);
     }
-    write_adjoint(a, c.modes, n, out);
-    Written {
-        refusal: Refusal::NONE,
-        len,
-        branches: 0,
-    }
+    write_adjoint(a, c.modes, n, out)
 }
 
 // Are the two one term?

@@ -9,6 +9,7 @@ use lib.ListN.{length}
 use Rattle.modes.specs.declared.Term.{Term}
 use Rattle.modes.proofs.Sums.{sum-through}
 use Rattle.lent.specs.Rows.{rowAt, rowsAt}
+use Rattle.lent.proofs.RowLaws.{length-rows-at}
 use Rattle.rows.specs.declared.Places.{Places}
 use Rattle.rows.specs.Apart.{Apart}
 use Rattle.rows.specs.Order.{key}
@@ -16,7 +17,7 @@ use Rattle.rows.specs.Places.{rowPlaces, termIn}
 use Rattle.modes.specs.Sums.{sumOf}
 use Rattle.rows.specs.Sorted.{Sorted}
 use Rattle.rows.proofs.Layouts.{rows-apart, term-row, terms-rows}
-use Rattle.rows.proofs.SortedTerms.{sum-kept, sorted-ascending, rows-around}
+use Rattle.rows.proofs.SortedTerms.{arranged, sum-kept, sorted-ascending, rows-around}
 use Rattle.record.specs.Coefficients.{coeffIn, coeffOf}
 use Rattle.normal.proofs.Normal.{normal-same}
 use Rattle.joins.specs.KeyWeights.{keyWeight, Light}
@@ -38,7 +39,7 @@ module _ (n : ℕ) (l m : List ℕ) (places : Places) (front : places ≡ rowPla
   in-rows = subst (λ (p : Places). Sorted p n l m) front sorted
 
   rows-sum : (w : Term → ℤ) → sumOf w (rowsAt m 0 n) ≡ sumOf w (rowsAt l 0 n)
-  rows-sum w = ap (sumOf w) (sym (terms-rows 0 m n)) ∙ sum-kept in-rows w ∙ ap (sumOf w) (terms-rows 0 l n)
+  rows-sum w = sum-kept (length-rows-at l 0 n) (length-rows-at m 0 n) (rw (terms-rows 0 l n, terms-rows 0 m n) at (arranged in-rows)) w
 
   sorted-coeff : (cre ann : ℕ) → coeffOf cre ann (rowsAt m 0 n) ≡ coeffOf cre ann (rowsAt l 0 n)
   sorted-coeff cre ann = rows-sum (coeffIn cre ann)

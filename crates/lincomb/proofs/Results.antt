@@ -3,7 +3,7 @@ use mathlib.Core.Path.{_≡_, refl, sym, ap, _∙_}
 use mathlib.Core.Bool.{Bool, true, false, cond}
 use mathlib.Core.List.{List}
 use mathlib.Core.Logic.{_⊎_, ⊎-elim}
-use Prim.Native.Nat.{ℕ, _+_, _*_, _^_, _≤_, _<_}
+use Prim.Native.Nat.{ℕ, _+_, _*_, _^_, _≤_, _<_, _-_}
 use native.Mathlib.Omega.{arith}
 use lib.Dec.{eqb, leb}
 use lib.ListN.{length}
@@ -16,9 +16,10 @@ use Rattle.lent.specs.Bytes.{put, zeros}
 use Rattle.modes.specs.Every.{Every}
 use Rattle.lent.specs.Outputs.{Output, refusedOutput, filledOutput, Gives}
 use Rattle.record.specs.Terms.{Ascending, weight}
-use Rattle.record.specs.Layout.{header, columns, encode, modesOf, countOf, termsOf}
+use Rattle.record.specs.Layout.{header, columns, encode, modesOf, countOf, termsOf, recordLength}
 use Rattle.modes.specs.Refusals.{orElse}
 use Rattle.record.specs.Refusals.{refusalOf, checkedOf}
+use Rattle.modes.specs.declared.Written.{Written}
 use Rattle.record.specs.Canonical.{Inside, Nonzero, Canonical}
 use Rattle.record.specs.Outputs.{recordOutput}
 use Rattle.record.specs.declared.Checked.{Checked}
@@ -160,11 +161,11 @@ module _ (room n w : ℕ) where
     too-heavy h = rw (le-leb _ _ few, lt-leb _ _ h) (sym (or-second none _ refl ∙ or-first (refusal 9 0 0) _ (λ e. absurd (omega arith))))
 
     module _ (light : w ≤ 2 ^ 60) where
-      pub too-long : room < 32 + 24 * n → refusal 11 0 0 ≡ resultRefusal room n w
+      pub too-long : room < recordLength n → refusal 11 0 0 ≡ resultRefusal room n w
       unfolding resultRefusal
       too-long h = rw (le-leb _ _ few, le-leb _ _ light, lt-leb _ _ h) (sym (or-second none _ refl ∙ or-second none _ refl))
 
-      pub none-late : 32 + 24 * n ≤ room → none ≡ resultRefusal room n w
+      pub none-late : recordLength n ≤ room → none ≡ resultRefusal room n w
       unfolding resultRefusal
       none-late h = rw (le-leb _ _ few, le-leb _ _ light, le-leb _ _ h) (sym (or-second none _ refl ∙ or-second none _ refl))
 
@@ -172,7 +173,7 @@ module _ (room n w : ℕ) where
 pub record Deliverable (room n w : ℕ) : Type 0 where
   pub few : n ≤ 2048
   pub light : w ≤ 2 ^ 60
-  pub long : 32 + 24 * n ≤ room
+  pub long : recordLength n ≤ room
 
 pub deliverable : (room n w : ℕ) → (resultRefusal room n w) .number ≡ 0 → Deliverable room n w
 unfolding resultRefusal
@@ -182,7 +183,7 @@ deliverable room n w e =
     record {
       few = bound-kept n 2048 10 (one .0) (λ h. absurd (omega arith));
       light = bound-kept w (2 ^ 60) 9 (two .0) (λ h. absurd (omega arith));
-      long = bound-kept (32 + 24 * n) room 11 (two .1) (λ h. absurd (omega arith));
+      long = bound-kept (recordLength n) room 11 (two .1) (λ h. absurd (omega arith));
     }
 
 -- what was counted and weighed as far as the ceiling is judged as the terms are

@@ -9,7 +9,7 @@ use Rattle.modes.specs.declared.Refusal.{Refusal}
 use Rattle.modes.specs.Answers.{none, modesDiffer, resultTooHeavy, tooManyTerms}
 use Rattle.lent.specs.Outputs.{Output, refusedOutput, filledOutput}
 use Rattle.record.specs.Terms.{weight}
-use Rattle.record.specs.Layout.{encode, modesOf, countOf, termsOf}
+use Rattle.record.specs.Layout.{encode, modesOf, countOf, termsOf, recordLength}
 use Rattle.modes.specs.Refusals.{need, orElse}
 use Rattle.record.specs.Refusals.{refusalOf}
 use Rattle.record.specs.Outputs.{roomRefusal, recordOutput}

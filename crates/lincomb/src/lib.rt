@@ -5,13 +5,12 @@ use modes::Term;
 use modes::Written;
 ghost use mathlib.Core.Path.{_≡_};
 ghost use mathlib.Core.Bool.{cond};
-ghost use Prim.Native.Nat.{_+_, _*_, _≤_, _<_, _^_};
+ghost use Prim.Native.Nat.{_+_, _≤_, _<_, _^_};
 ghost use lib.Dec.{eqb};
 ghost use lib.IntN.{natAbs};
 ghost use lib.ListN.{length};
-ghost use Rattle.lent.specs.Bytes.{put};
 ghost use Rattle.lent.specs.Outputs.{Gives, filledOutput};
-ghost use Rattle.record.specs.Layout.{columns, encode};
+ghost use Rattle.record.specs.Layout.{columns, encode, termsIn};
 ghost use Rattle.normal.specs.Normal.{dropZeros, join};
 ghost use Rattle.record.specs.Reading.{Holds, Sound};
 ghost use Rattle.lincomb.specs.Results.{shut, openedOf, resultRefusal};
@@ -94,7 +93,7 @@ pub fn verdict(room: usize, n: usize, w: u64) -> Refusal
     if record::HEAVIEST < w {
         return Refusal::RESULT_TOO_HEAVY;
     }
-    if room < 32 + 24 * n {
+    if room < record::length_of(n) {
         return Refusal::OUTPUT_TOO_SHORT;
     }
     Refusal::NONE
@@ -193,11 +192,11 @@ fn count_terms(sign: Sign, a: &[u8], na: usize, b: &[u8], nb: usize) -> Tally
     }
 }
 
-// The result's terms, of which there are n, to their columns.
+// The result's terms, of which there are n, to their places.
 fn put_terms(sign: Sign, a: &[u8], na: usize, b: &[u8], nb: usize, out: &mut [u8], n: usize)
     requires { ⌜ Sound (now a) na × Sound (now b) nb ⌝ }
     requires { ⌜ (n ≡ length (dropZeros (onward (sign .0) (now a) na (now b) nb 0 0))) × Holds (now out) n ⌝ }
-    ensures { λ _. ⌜ now (out .exit) ≡ put (now (out .entry)) 32 (columns (dropZeros (onward (sign .0) (now (a .entry)) na (now (b .entry)) nb 0 0))) ⌝ }
+    ensures { λ _. ⌜ termsIn (now (out .exit)) n ≡ dropZeros (onward (sign .0) (now (a .entry)) na (now (b .entry)) nb 0 0) ⌝ }
 {
     let mut i = 0;
     let mut j = 0;
@@ -229,15 +228,8 @@ fn write_sum(
     requires { ⌜ (n ≡ length (dropZeros (onward (sign .0) (now a) na (now b) nb 0 0))) × Holds (now out) n × (n ≤ 2048) ⌝ }
     ensures { λ r. ⌜ Gives (filledOutput (length (now (out .entry))) 0 (encode m (dropZeros (onward (sign .0) (now (a .entry)) na (now (b .entry)) nb 0 0)))) r (now (out .exit)) ⌝ }
 {
-    record::put_header(out, m, n);
     put_terms(sign, a, na, b, nb, out, n);
-    let end = 32 + 24 * n;
-    lent::wipe_from(out, end);
-    Written {
-        refusal: Refusal::NONE,
-        len: end,
-        branches: 0,
-    }
+    record::finish(out, m, n, 0)
 }
 
 // The first record with the second, each of whose terms has the sign.

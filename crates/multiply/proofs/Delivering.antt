@@ -1,21 +1,20 @@
--- The joined rows weighed, put to their columns and delivered.
-use mathlib.Core.Path.{_≡_, sym, ap, _∙_}
+-- The joined rows weighed, put to their places and delivered.
+use mathlib.Core.Path.{_≡_, sym, ap, ap₂, _∙_}
 use mathlib.Core.List.{List, [], _∷_, _++_}
 use Prim.Native.Nat.{ℕ, _+_, _-_, _*_, _≤_, _<_}
 use native.Mathlib.Nat.{zero-add}
 use native.Mathlib.Omega.{arith}
-use lib.ListN.{length}
+use lib.ListN.{length, take, set}
 use lib.IntN.{natAbs}
 use Rattle.modes.specs.declared.Term.{Term}
 use Rattle.modes.specs.declared.Refusal.{Refusal}
-use Rattle.lent.specs.Bytes.{put}
 use Rattle.lent.specs.Rows.{rowAt, rowsAt}
 use Rattle.lent.proofs.RowLaws.{rows-more, rows-next, length-rows-at}
 use Rattle.record.specs.Terms.{weight}
 use Rattle.record.specs.Weights.{heavierBy}
-use Rattle.record.specs.Layout.{columns, putTerm}
+use Rattle.record.specs.Layout.{termsIn}
 use Rattle.record.proofs.Checking.{weight-front}
-use Rattle.record.proofs.Columns.{spread, spread-none, spread-more, length-spread, spread-all}
+use Rattle.record.proofs.Columns.{terms-more, terms-all}
 use Rattle.record.proofs.Weights.{Weighs, weighs-start, weighs-more}
 use Rattle.lincomb.specs.Results.{resultRefusal}
 use Rattle.lincomb.specs.Tallies.{Tallied}
@@ -43,29 +42,18 @@ weighing-ends l n w i g h =
     let none : weight (rowsAt l (24 * i) (n - i)) ≡ 0 = ap (λ (k : ℕ). weight (rowsAt l (24 * i) k)) spent in
     record { terms = sym (length-rows-at l 0 n); light = λ q. omega (arith, g .exact q, none); heavy = λ q. g .over q }
 
--- ---- put to their columns one by one: i of them stand there
+-- ---- put to their places one by one: i of them stand there
 
-abbrev pub Spreading : List ℕ → ℕ → List ℕ → ℕ → List ℕ → Type 0
-Spreading l n out₀ i out = out ≡ spread out₀ n (rowsAt l 0 i)
+abbrev pub Placing : List ℕ → ℕ → ℕ → List ℕ → Type 0
+Placing l n i out = take i (termsIn out n) ≡ rowsAt l 0 i
 
-module _ (l : List ℕ) (n : ℕ) (out₀ : List ℕ) (room : 32 + 24 * n ≤ length out₀) where
-  pub spreading-starts : Spreading l n out₀ 0 out₀
-  unfolding rowsAt
-  spreading-starts = spread-none out₀ n
+module _ (l : List ℕ) (n i : ℕ) (out : List ℕ) (g : Placing l n i out) where
+  pub placing-goes : i < n → (t : Term) → t ≡ rowAt l (24 * i) → (next : List ℕ) → termsIn next n ≡ set (termsIn out n) i t → Placing l n (i + 1) next
+  placing-goes h t et next e =
+      terms-more out next n i t h e ∙ ap₂ (λ (ts : List Term) (u : Term). ts ++ (u ∷ [])) g (et ∙ ap (rowAt l) (sym (zero-add (24 * i)))) ∙ sym (rows-more l 0 i)
 
-  module _ (i : ℕ) (out : List ℕ) (g : Spreading l n out₀ i out) where
-    pub spreading-room : i ≤ n → length out ≡ length out₀
-    spreading-room h = ap length g ∙ length-spread out₀ n room (rowsAt l 0 i) (omega (arith, length-rows-at l 0 i))
-
-    pub spreading-goes : i < n → (t : Term) → t ≡ rowAt l (24 * i) → (next : List ℕ) → next ≡ putTerm out n i t → Spreading l n out₀ (i + 1) next
-    spreading-goes h t et next e =
-        e ∙ ap (λ (z : List ℕ). putTerm z n i t) g ∙ spread-more out₀ n room (rowsAt l 0 i) i (length-rows-at l 0 i) h t
-        ∙ ap (spread out₀ n) (ap (λ (u : Term). rowsAt l 0 i ++ (u ∷ [])) (et ∙ ap (rowAt l) (sym (zero-add (24 * i)))) ∙ sym (rows-more l 0 i))
-
-    pub spreading-ends : i ≤ n → n ≤ i → out ≡ put out₀ 32 (columns (rowsAt l 0 n))
-    spreading-ends h k =
-        let all : i ≡ n = omega arith in
-        g ∙ ap (λ (j : ℕ). spread out₀ n (rowsAt l 0 j)) all ∙ spread-all out₀ n room (rowsAt l 0 n) (length-rows-at l 0 n)
+  pub placing-ends : i ≤ n → n ≤ i → termsIn out n ≡ rowsAt l 0 n
+  placing-ends h k = let all : i ≡ n = omega arith in sym (terms-all out n i k) ∙ g ∙ ap (rowsAt l 0) all
 
 -- 10, 9 and 11 by what was weighed as far as the ceiling
 pub verdict-is : (room : ℕ) (l : List ℕ) (n : ℕ) (t : Tally) → Tallied (rowsAt l 0 n) t → (late : Refusal) → late ≡ resultRefusal room n (t .weight)

@@ -5,13 +5,13 @@ use modes::Sign;
 use modes::Term;
 use modes::Written;
 ghost use mathlib.Core.Path.{_≡_};
-ghost use Prim.Native.Nat.{_+_, _*_, _≤_};
+ghost use Prim.Native.Nat.{_*_, _≤_};
 ghost use lib.ListN.{length};
 ghost use Rattle.modes.specs.Answers.{none};
-ghost use Rattle.lent.specs.Bytes.{put, zeros};
+ghost use Rattle.lent.specs.Bytes.{zeros};
 ghost use Rattle.lent.specs.Rows.{rowsAt};
 ghost use Rattle.lent.specs.Outputs.{Gives};
-ghost use Rattle.record.specs.Layout.{columns};
+ghost use Rattle.record.specs.Layout.{termsIn};
 ghost use Rattle.record.specs.Reading.{Holds};
 ghost use Rattle.lincomb.specs.Results.{resultOf};
 ghost use Rattle.lincomb.specs.Tallies.{Tallied};
@@ -46,10 +46,10 @@ fn tally(work: &[u8], n: usize) -> Tally
     }
 }
 
-// The n rows at the front of the work, to their columns.
+// The n rows at the front of the work, to their places in the record.
 fn put_terms(work: &[u8], n: usize, out: &mut [u8])
     requires { ⌜ (24 * n ≤ length (now work)) × Holds (now out) n ⌝ }
-    ensures { λ _. ⌜ now (out .exit) ≡ put (now (out .entry)) 32 (columns (rowsAt (now (work .entry)) 0 n)) ⌝ }
+    ensures { λ _. ⌜ termsIn (now (out .exit)) n ≡ rowsAt (now (work .entry)) 0 n ⌝ }
 {
     let mut i = 0;
     while i < n {
@@ -68,15 +68,8 @@ fn deliver(work: &[u8], n: usize, branches: u64, m: u64, out: &mut [u8]) -> Writ
     if late.number != 0 {
         return lent::refuse(out, late);
     }
-    record::put_header(out, m, n);
     put_terms(work, n, out);
-    let end = 32 + 24 * n;
-    lent::wipe_from(out, end);
-    Written {
-        refusal: Refusal::NONE,
-        len: end,
-        branches,
-    }
+    record::finish(out, m, n, branches)
 }
 
 // The rows of two records that are open, joined and delivered. The work is left as it is, for `finish` wipes it.

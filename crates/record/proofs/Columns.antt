@@ -1,111 +1,96 @@
--- A record's bytes written term by term, from wherever the terms come.
-use mathlib.Core.Path.{_≡_, sym, ap, _∙_}
-use mathlib.Core.List.{List, [], _∷_, _++_, map, map-append, append-assoc}
+-- Terms at their columns: what is put there is read there, what is sorted there, and what finishes the record.
+use mathlib.Core.Path.{_≡_, sym, ap, ap₂, _∙_}
+use mathlib.Core.List.{List, [], _∷_, _++_}
+use mathlib.Core.Logic.{_⊎_, inl, inr}
 use Prim.Native.Nat.{ℕ, _+_, _*_, _-_, _≤_, _<_}
+use native.Mathlib.Nat.{zero-add}
+use native.Mathlib.Numerals.{add-one}
 use native.Mathlib.Omega.{arith}
-use lib.ListN.{length, take, length-append}
-use lib.Seq.{take-at}
+use lib.ListN.{length, take, drop, set, length-set}
+use lib.Seq.{ext-getD, getD-drop, getD-set-same, getD-set-other, take-suc-set, take-all, take-append-add}
 use Rattle.modes.specs.declared.Term.{Term}
-use Rattle.lent.specs.Bytes.{bytes, put, zeros}
-use Rattle.lent.proofs.Numbers.{length-bytes}
-use Rattle.lent.proofs.Puts.{length-put, put-join, put-swap}
-use Rattle.record.specs.Numbers.{stored}
-use Rattle.record.specs.Layout.{header, column, columns, bitsOf, encode, putTerm}
-use Rattle.record.proofs.Numbers.{stored-append, stored-one, put-none}
-use Rattle.record.proofs.Inverse.{length-header, length-column, length-encode}
+use Rattle.modes.specs.Answers.{wrote}
+use Rattle.lent.specs.Bytes.{put, zeros}
+use Rattle.lent.specs.Rows.{Fit}
+use Rattle.lent.specs.Outputs.{filledOutput, Gives}
+use Rattle.lent.proofs.Puts.{length-put}
+use Rattle.rows.specs.Terms.{at}
+use Rattle.rows.specs.Apart.{Apart}
+use Rattle.rows.specs.Places.{termIn, putIn, termsPlaced}
+use Rattle.rows.specs.Sorted.{Arranged, Sorted}
+use Rattle.rows.proofs.Choices.{same-or}
+use Rattle.rows.proofs.UpTo.{up-to-at, up-to-same}
+use Rattle.rows.proofs.InPlaces.{put-same, put-other}
+use Rattle.rows.proofs.SortedTerms.{arranged}
+use Rattle.record.specs.Layout.{recordLength, header, columns, encode, termsIn, columnPlaces}
+use Rattle.record.specs.Reading.{Holds}
+use Rattle.record.proofs.Reading.{length-terms, term-at}
+use Rattle.record.proofs.Inverse.{Small, columns-read, length-header, length-encode}
 
-column-more : (f : Term → ℕ) (ts : List Term) (t : Term) → column f (ts ++ (t ∷ [])) ≡ column f ts ++ bytes 8 (f t)
-unfolding column
-column-more f ts t =
-    ap (stored 8) (map-append f ts (t ∷ [])) ∙ stored-append 8 (map f ts) (f t ∷ []) ∙ ap (λ (z : List ℕ). stored 8 (map f ts) ++ z) (stored-one 8 (f t))
+pub columns-apart : (n size : ℕ) → recordLength n ≤ size → Apart (columnPlaces n) n size
+columns-apart n size h = record {
+  held = λ i b. record { ann = omega arith; cre = omega arith; coeff = omega arith };
+  wide = omega arith;
+  ann-cre = λ i j b c. inl (omega arith);
+  ann-coeff = λ i j b c. inl (omega arith);
+  cre-coeff = λ i j b c. inl (omega arith);
+}
 
--- l with the first of n terms in their columns
-unfoldable pub spread : List ℕ → ℕ → List Term → List ℕ
-spread l n ts = put (put (put l 32 (column (λ t. t .ann) ts)) (32 + 8 * n) (column (λ t. t .cre) ts)) (32 + 16 * n) (column bitsOf ts)
+-- the terms of a record are those at its columns
+at-head : (ts us : List Term) (t : Term) (i : ℕ) → drop i ts ≡ t ∷ us → at ts i ≡ t
+unfolding at
+at-head ts us t i e =
+    let z : i + 0 ≡ i = omega arith in
+    ap (λ (k : ℕ). at ts k) (sym z) ∙ sym (getD-drop i ts 0 _) ∙ ap (λ (vs : List Term). at vs 0) e
 
-pub spread-none : (l : List ℕ) (n : ℕ) → l ≡ spread l n []
-unfolding spread column stored
-spread-none l n = sym (put-none _ (32 + 16 * n) ∙ put-none _ (32 + 8 * n) ∙ put-none l 32)
+at-columns : (l : List ℕ) (n : ℕ) → termsPlaced (columnPlaces n) l n ≡ termsIn l n
+unfolding termIn
+at-columns l n =
+    up-to-same (termIn (columnPlaces n) l) (at (termsIn l n)) n (λ k h. sym (at-head (termsIn l n) _ _ k (term-at l n k h)))
+    ∙ up-to-at (termsIn l n) n (length-terms l n)
 
-module _ (l : List ℕ) (n : ℕ) (room : 32 + 24 * n ≤ length l) where
-  -- one store of the three, beside what the columns hold
-  module _ (x y z : List ℕ) (lx : length x ≤ 8 * n) (ly : length y ≤ 8 * n) (lz : length z ≤ 8 * n) where
-    one : length (put l 32 x) ≡ length l
-    one = length-put l 32 x (omega arith)
+pub sorted-terms : (n : ℕ) (l m : List ℕ) → Sorted (columnPlaces n) n l m → Arranged n (termsIn l n) (termsIn m n)
+sorted-terms n l m s = rw (at-columns l n, at-columns m n) at (arranged s)
 
-    two : length (put (put l 32 x) (32 + 8 * n) y) ≡ length l
-    two = length-put (put l 32 x) (32 + 8 * n) y (omega (arith, one)) ∙ one
+-- a term put at its place is read there, and the others are as they were
+pub term-put : (l m : List ℕ) (n k : ℕ) (t : Term) → Holds l n → k < n → Fit t → m ≡ putIn (columnPlaces n) l k t → termsIn m n ≡ set (termsIn l n) k t
+unfolding at
+term-put l m n k t room h fit e =
+    ext-getD _ (termsIn m n) (set (termsIn l n) k t) (length-terms m n ∙ sym (length-set (termsIn l n) k t ∙ length-terms l n)) (λ i b. go i (same-or i k))
+  where
+    apart : Apart (columnPlaces n) n (length l)
+    apart = columns-apart n (length l) room
 
-    three : length (put (put (put l 32 x) (32 + 8 * n) y) (32 + 16 * n) z) ≡ length l
-    three = length-put (put (put l 32 x) (32 + 8 * n) y) (32 + 16 * n) z (omega (arith, two)) ∙ two
+    put-at : (i : ℕ) → at (termsIn m n) i ≡ at (termsPlaced (columnPlaces n) (putIn (columnPlaces n) l k t) n) i
+    put-at i = ap (λ (ts : List Term). at ts i) (sym (at-columns m n) ∙ ap (λ (r : List ℕ). termsPlaced (columnPlaces n) r n) e)
 
-    module _ (k : ℕ) (w : List ℕ) (lw : length w ≡ 8) (g : k < n) where
-      in-first : length x ≡ 8 * k
-          → put (put (put (put l 32 x) (32 + 8 * n) y) (32 + 16 * n) z) (32 + 8 * k) w ≡ put (put (put l 32 (x ++ w)) (32 + 8 * n) y) (32 + 16 * n) z
-      in-first e =
-          put-swap (put (put l 32 x) (32 + 8 * n) y) z w (32 + 16 * n) (32 + 8 * k) (omega arith) (omega (arith, two))
-          ∙ ap (λ (q : List ℕ). put q (32 + 16 * n) z) (put-swap (put l 32 x) y w (32 + 8 * n) (32 + 8 * k) (omega arith) (omega (arith, one)))
-          ∙ ap (λ (q : List ℕ). put (put q (32 + 8 * n) y) (32 + 16 * n) z) (put-join l x w 32 (32 + 8 * k) (omega arith) (omega arith))
+    go : (i : ℕ) → (i ≡ k) ⊎ (i ≡ k → ⊥) → at (termsIn m n) i ≡ at (set (termsIn l n) k t) i
+    go i (inl q) = rw q (put-at k ∙ put-same (columnPlaces n) n l k t apart h fit ∙ sym (getD-set-same (termsIn l n) k t _ (rw (length-terms l n) h)))
+    go i (inr q) =
+        put-at i ∙ put-other (columnPlaces n) n l k t apart h i q ∙ ap (λ (ts : List Term). at ts i) (at-columns l n)
+        ∙ sym (getD-set-other (termsIn l n) k i t _ q)
 
-      in-second : length y ≡ 8 * k
-          → put (put (put (put l 32 x) (32 + 8 * n) y) (32 + 16 * n) z) (32 + 8 * n + 8 * k) w ≡ put (put (put l 32 x) (32 + 8 * n) (y ++ w)) (32 + 16 * n) z
-      in-second e =
-          put-swap (put (put l 32 x) (32 + 8 * n) y) z w (32 + 16 * n) (32 + 8 * n + 8 * k) (omega arith) (omega (arith, two))
-          ∙ ap (λ (q : List ℕ). put q (32 + 16 * n) z)
-          (put-join (put l 32 x) y w (32 + 8 * n) (32 + 8 * n + 8 * k) (omega (arith, one)) (omega arith))
+-- terms put one after the other: the first of them, and all
+pub terms-more : (l m : List ℕ) (n k : ℕ) (t : Term) → k < n → termsIn m n ≡ set (termsIn l n) k t → take (k + 1) (termsIn m n) ≡ take k (termsIn l n) ++ (t ∷ [])
+terms-more l m n k t h e = rw (add-one k, e) (take-suc-set (termsIn l n) k t (rw (length-terms l n) h))
 
-      in-third : length z ≡ 8 * k
-          → put (put (put (put l 32 x) (32 + 8 * n) y) (32 + 16 * n) z) (32 + 16 * n + 8 * k) w ≡ put (put (put l 32 x) (32 + 8 * n) y) (32 + 16 * n) (z ++ w)
-      in-third e = put-join (put (put l 32 x) (32 + 8 * n) y) z w (32 + 16 * n) (32 + 16 * n + 8 * k) (omega (arith, two)) (omega arith)
+pub terms-all : (l : List ℕ) (n k : ℕ) → n ≤ k → take k (termsIn l n) ≡ termsIn l n
+terms-all l n k h = take-all k (termsIn l n) (rw (length-terms l n) h)
 
-  module _ (ts : List Term) (k : ℕ) (count : length ts ≡ k) (g : k < n) (t : Term) where
-    filled : (f : Term → ℕ) → length (column f ts) ≡ 8 * k
-    filled f = length-column f ts ∙ ap (λ (q : ℕ). 8 * q) count
-
-    below : (f : Term → ℕ) → length (column f ts) ≤ 8 * n
-    below f = omega (arith, filled f)
-
-    still-below : (f : Term → ℕ) → length (column f ts ++ bytes 8 (f t)) ≤ 8 * n
-    still-below f = simp (length-append, length-bytes) (omega (arith, filled f))
-
-    -- the k-th term written
-    pub spread-more : putTerm (spread l n ts) n k t ≡ spread l n (ts ++ (t ∷ []))
-    unfolding spread putTerm
-    spread-more =
-        ap (λ (q : List ℕ). put (put q (32 + 8 * n + 8 * k) (bytes 8 (t .cre))) (32 + 16 * n + 8 * k) (bytes 8 (bitsOf t)))
-        (in-first (column (λ t. t .ann) ts) (column (λ t. t .cre) ts) (column bitsOf ts) (below _) (below _) (below _) k (bytes 8 (t .ann)) (length-bytes 8 (t .ann)) g (filled _))
-        ∙ ap (λ (q : List ℕ). put q (32 + 16 * n + 8 * k) (bytes 8 (bitsOf t)))
-        (in-second (column (λ t. t .ann) ts ++ bytes 8 (t .ann)) (column (λ t. t .cre) ts) (column bitsOf ts) (still-below (λ t. t .ann)) (below _) (below _) k (bytes 8 (t .cre)) (length-bytes 8 (t .cre)) g (filled _))
-        ∙ in-third (column (λ t. t .ann) ts ++ bytes 8 (t .ann)) (column (λ t. t .cre) ts ++ bytes 8 (t .cre)) (column bitsOf ts) (still-below (λ t. t .ann)) (still-below (λ t. t .cre)) (below _) k (bytes 8 (bitsOf t)) (length-bytes 8 (bitsOf t)) g (filled _)
-        ∙ rw (column-more (λ t. t .ann) ts t, column-more (λ t. t .cre) ts t, column-more bitsOf ts t)
-
-  pub length-spread : (ts : List Term) → length ts ≤ n → length (spread l n ts) ≡ length l
-  unfolding spread
-  length-spread ts h =
-      let e : (f : Term → ℕ) → length (column f ts) ≤ 8 * n = λ f. omega (arith, length-column f ts) in
-      three (column (λ t. t .ann) ts) (column (λ t. t .cre) ts) (column bitsOf ts) (e _) (e _) (e _)
-
-  -- all n terms written
-  pub spread-all : (ts : List Term) → length ts ≡ n → spread l n ts ≡ put l 32 (columns ts)
-  unfolding spread columns
-  spread-all ts count =
-      let e : (f : Term → ℕ) → length (column f ts) ≡ 8 * n = λ f. length-column f ts ∙ ap (λ (q : ℕ). 8 * q) count in
-      ap (λ (q : List ℕ). put q (32 + 16 * n) (column bitsOf ts))
-      (put-join l (column (λ t. t .ann) ts) (column (λ t. t .cre) ts) 32 (32 + 8 * n) (omega arith) (omega (arith, e (λ t. t .ann))))
-      ∙ put-join l (column (λ t. t .ann) ts ++ column (λ t. t .cre) ts) (column bitsOf ts) 32 (32 + 16 * n) (omega arith)
-      (simp length-append (omega (arith, e (λ t. t .ann), e (λ t. t .cre))))
-      ∙ ap (put l 32) (append-assoc (column (λ t. t .ann) ts) (column (λ t. t .cre) ts) (column bitsOf ts))
-
--- header, columns, and zeros past them: what three stores leave
-pub record-written : (out one two three : List ℕ) (m n : ℕ) (ts : List Term) → n ≡ length ts → 32 + 24 * n ≤ length out
-    → one ≡ put out 0 (header m n) → two ≡ put one 32 (columns ts) → three ≡ take (32 + 24 * n) two ++ zeros (length two - (32 + 24 * n))
-    → three ≡ encode m ts ++ zeros (length out - length (encode m ts))
+put-front : (l bs : List ℕ) → put l 0 bs ≡ bs ++ drop (length bs) l
 unfolding put
-record-written out one two three m n ts count room e1 e2 e3 =
-    let size : length (encode m ts) ≡ 32 + 24 * n = length-encode m ts ∙ ap (λ (x : ℕ). 32 + 24 * x) (sym count) in
-    let together : two ≡ put out 0 (encode m ts) =
-    e2 ∙ ap (λ (q : List ℕ). put q 32 (columns ts)) (e1 ∙ ap (λ (x : ℕ). put out 0 (header m x)) count)
-    ∙ put-join out (header m (length ts)) (columns ts) 0 32 (omega arith) (omega (arith, length-header m (length ts))) in
-    let long : length two ≡ length out = ap length together ∙ length-put out 0 (encode m ts) (omega arith) in
-    let front : take (32 + 24 * n) two ≡ encode m ts = ap (take (32 + 24 * n)) together ∙ take-at (encode m ts) _ (32 + 24 * n) size in
-    e3 ∙ rw (front, long, size)
+put-front l bs = rw (zero-add (length bs))
+
+-- the header in front of them, and zeros past them
+pub finished : (out one two : List ℕ) (m n branches : ℕ) → Small out → Holds out n → one ≡ put out 0 (header m n)
+    → two ≡ take (recordLength n) one ++ zeros (length one - recordLength n)
+    → Gives (filledOutput (length out) branches (encode m (termsIn out n))) (wrote (recordLength n) branches) two
+finished out one two m n branches small room e1 e2 =
+    let ts = termsIn out n in
+    let size : length (encode m ts) ≡ recordLength n = length-encode m ts ∙ ap recordLength (length-terms out n) in
+    let h = length-header m n in
+    let long : length one ≡ length out = ap length e1 ∙ length-put out 0 (header m n) (omega arith) in
+    let front : take (recordLength n) one ≡ encode m ts =
+    ap₂ take (ap (λ (x : ℕ). x + 24 * n) (sym h)) (e1 ∙ put-front out (header m n)) ∙ take-append-add (header m n) _ (24 * n)
+    ∙ ap₂ (λ (x : ℕ) (y : List ℕ). header m x ++ y) (sym (length-terms out n)) (ap (λ (x : ℕ). take (24 * n) (drop x out)) h ∙ sym (columns-read out small n room)) in
+    record { answer = ap (λ (k : ℕ). wrote k branches) (sym size); bytes = e2 ∙ rw (front, long, size) }

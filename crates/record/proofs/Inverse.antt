@@ -23,7 +23,8 @@ use Rattle.lent.proofs.NumbersAt.{num-at-below}
 use Rattle.lent.proofs.RowLaws.{term-of}
 use Rattle.record.specs.Numbers.{stored, numbers}
 use Rattle.record.specs.Terms.{weight}
-use Rattle.record.specs.Layout.{fields, header, column, columns, bitsOf, encode, modesOf, countOf, together, termsIn, termsOf, laidOut}
+use Rattle.record.specs.Layout.{recordLength, fields, header, column, columns, bitsOf, encode, modesOf, countOf, totalOf, together, termsIn, termsOf, laidOut}
+use Rattle.record.specs.Reading.{Holds}
 use Rattle.record.specs.Refusals.{refusalOf}
 use Rattle.record.specs.Canonical.{Inside, Canonical}
 use Rattle.record.proofs.Numbers.{length-stored, numbers-stored, stored-numbers, numbers-same}
@@ -60,7 +61,7 @@ module _ (l : List ℕ) (small : Small l) where
   bits-column =
       read-column bitsOf (λ a c z. z) (λ a c z. refl) (λ a c z h. ofZ-toZ {w = w64} (record { fits = num-at-below 8 l z h small }))
 
-  pub creations-read : (n : ℕ) → 32 + 24 * n ≤ length l → column (λ t. t .cre) (termsIn l n) ≡ take (8 * n) (drop (32 + 8 * n) l)
+  pub creations-read : (n : ℕ) → Holds l n → column (λ t. t .cre) (termsIn l n) ≡ take (8 * n) (drop (32 + 8 * n) l)
   unfolding column termsIn
   creations-read n h = rw (cre-column 32 (32 + 8 * n) (32 + 16 * n) n (omega arith), stored-numbers 8 l (32 + 8 * n) n (omega arith) small)
 
@@ -69,7 +70,7 @@ module _ (l : List ℕ) (small : Small l) where
   three k d =
       sym (take-add k (k + k) d ∙ ap (λ (z : List ℕ). take k d ++ z) (take-add k k (drop k d) ∙ rw (drop-drop k k d)))
 
-  pub columns-read : (n : ℕ) → 32 + 24 * n ≤ length l → columns (termsIn l n) ≡ take (24 * n) (drop 32 l)
+  pub columns-read : (n : ℕ) → Holds l n → columns (termsIn l n) ≡ take (24 * n) (drop 32 l)
   unfolding columns column termsIn
   columns-read n h =
       let k : 24 * n ≡ 8 * n + (8 * n + 8 * n) = omega arith in
@@ -113,7 +114,7 @@ pub length-columns : (ts : List Term) → length (columns ts) ≡ 24 * length ts
 unfolding columns
 length-columns ts = simp (length-append, length-column) (omega arith)
 
-pub length-encode : (m : ℕ) (ts : List Term) → length (encode m ts) ≡ 32 + 24 * length ts
+pub length-encode : (m : ℕ) (ts : List Term) → length (encode m ts) ≡ recordLength (length ts)
 length-encode m ts = length-append (header m (length ts)) (columns ts) ∙ rw (length-header, length-columns)
 
 module _ (m : ℕ) (ts : List Term) (modes : m < 2 ^ 32) (few : length ts ≤ 2048) where
@@ -139,6 +140,10 @@ module _ (m : ℕ) (ts : List Term) (modes : m < 2 ^ 32) (few : length ts ≤ 20
   pub count-read : countOf (encode m ts) ≡ n
   unfolding numbers
   count-read = ap (λ (xs : List ℕ). getD xs 2 0) header-read
+
+  total-read : totalOf (encode m ts) ≡ recordLength n
+  unfolding numbers
+  total-read = ap (λ (xs : List ℕ). getD xs 6 0) header-read
 
   module _ (fit : Every Fit ts) where
     -- a column that stands after p
@@ -189,11 +194,13 @@ module _ (m : ℕ) (ts : List Term) (modes : m < 2 ^ 32) (few : length ts ≤ 20
         header-read,
         modes-read,
         count-read,
+        total-read,
         eq-eqb _ _ (length-encode m ts),
         le-leb 1 m some,
         le-leb m 64 most,
         le-leb _ _ few,
-      ) (numbers-same (fields m n))
+        numbers-same (fields m n),
+      )
 
 small-coefficient : (z : ℤ) → natAbs z ≤ 2 ^ 60 → SFits w64 z
 small-coefficient (pos n) h = record { sfits = omega arith }

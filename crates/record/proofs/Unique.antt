@@ -4,11 +4,15 @@ use mathlib.Core.Bool.{Bool}
 use mathlib.Core.List.{List, _∷_}
 use Prim.Native.Nat.{ℕ, _+_, _^_, _≤_}
 use lib.IntN.{natAbs}
-use lib.ListN.{drop}
+use lib.ListN.{drop, length, set}
+use Rattle.modes.specs.Words.{bit}
+use Rattle.modes.specs.Counts.{count}
 use Rattle.modes.specs.declared.Term.{Term}
-use Rattle.lent.specs.Bytes.{put}
+use Rattle.modes.specs.declared.Written.{Written}
+use Rattle.lent.specs.Outputs.{filledOutput, Gives}
+use Rattle.lent.proofs.Outputs.{gives-one}
 use Rattle.record.specs.Terms.{before}
-use Rattle.record.specs.Layout.{header, termsIn, putTerm}
+use Rattle.record.specs.Layout.{encode, termsIn}
 use Rattle.record.specs.Refusals.{checkedOf}
 use Rattle.record.specs.Reading.{At}
 use Rattle.record.specs.Weights.{heavierBy}
@@ -39,11 +43,14 @@ one-size t r s p q = one (p .0) (q .0)
 pub one-weight : (k w r s : ℕ) → r ≡ heavierBy k w → s ≡ heavierBy k w → r ≡ s
 one-weight k w r s = one
 
-pub one-header : (out : List ℕ) (m n : ℕ) (x y : List ℕ) → x ≡ put out 0 (header m n) → y ≡ put out 0 (header m n) → x ≡ y
-one-header out m n x y = one
-
-pub one-put : (out : List ℕ) (n k : ℕ) (t : Term) (x y : List ℕ) → x ≡ putTerm out n k t → y ≡ putTerm out n k t → x ≡ y
+-- of the terms that stand in an output; its other bytes are left to `finish`
+pub one-put : (out : List ℕ) (n k : ℕ) (t : Term) (x y : List ℕ) → termsIn x n ≡ set (termsIn out n) k t → termsIn y n ≡ set (termsIn out n) k t
+    → termsIn x n ≡ termsIn y n
 one-put out n k t x y = one
+
+pub one-finish : (out : List ℕ) (m n branches : ℕ) (r s : Written) (x y : List ℕ) → Gives (filledOutput (length out) branches (encode m (termsIn out n))) r x
+    → Gives (filledOutput (length out) branches (encode m (termsIn out n))) s y → (r ≡ s) × (x ≡ y)
+one-finish out m n branches r s x y p q = gives-one p q
 
 pub one-stretch : (l : List ℕ) (a : ℕ) (r s : Stretch) → r ≡ blockOf l a → s ≡ blockOf l a → r ≡ s
 one-stretch l a r s = one

@@ -11,6 +11,7 @@ use Rattle.modes.specs.declared.MadeSpace.{MadeSpace}
 use Rattle.modes.specs.declared.MadeSpace.the-variants.{Made, Refused}
 use Rattle.modes.specs.Spaces.{spaceOf, isMade}
 use Rattle.lent.specs.Bytes.{bytes, halfAt, put}
+use Rattle.rows.specs.declared.Places.{Places}
 use Rattle.record.specs.Numbers.{stored, numbers, sameNumbers}
 
 -- how many bytes a record of n terms has
@@ -19,7 +20,7 @@ recordLength n = 32 + 24 * n
 
 -- version, modes, terms, offsets of annihilations, creations and coefficients, total, zero
 abbrev pub fields : ℕ → ℕ → List ℕ
-fields m n = 1 ∷ m ∷ n ∷ 32 ∷ (32 + 8 * n) ∷ (32 + 16 * n) ∷ (32 + 24 * n) ∷ 0 ∷ []
+fields m n = 1 ∷ m ∷ n ∷ 32 ∷ (32 + 8 * n) ∷ (32 + 16 * n) ∷ recordLength n ∷ 0 ∷ []
 
 unfoldable pub header : ℕ → ℕ → List ℕ
 header m n = stored 4 (fields m n)
@@ -45,6 +46,10 @@ modesOf l = halfAt l 4
 abbrev pub countOf : List ℕ → ℕ
 countOf l = halfAt l 8
 
+-- the length that its header tells
+abbrev pub totalOf : List ℕ → ℕ
+totalOf l = halfAt l 24
+
 -- terms from their annihilations, their creations and the bits of their coefficients
 unfoldable pub together : List ℕ → List ℕ → List ℕ → List Term
 together [] ys zs = []
@@ -59,13 +64,14 @@ termsIn l n = together (numbers 8 l 32 n) (numbers 8 l (32 + 8 * n) n) (numbers 
 abbrev pub termsOf : List ℕ → List Term
 termsOf l = termsIn l (countOf l)
 
--- header, length, mode count and number of terms keep the rules
-unfoldable pub laidOut : List ℕ → Bool
-laidOut l =
-    eqb (length l) (32 + 24 * countOf l)
-    && (isMade (spaceOf (modesOf l)) && (leb (countOf l) 2048 && sameNumbers (numbers 4 l 0 8) (fields (modesOf l) (countOf l))))
+-- the header is good: its mode count and number of terms keep the rules, and its other numbers are theirs
+abbrev pub goodHeader : List ℕ → Bool
+goodHeader l = isMade (spaceOf (modesOf l)) && (leb (countOf l) 2048 && sameNumbers (numbers 4 l 0 8) (fields (modesOf l) (countOf l)))
 
--- the k-th of n terms put in its three columns
-unfoldable pub putTerm : List ℕ → ℕ → ℕ → Term → List ℕ
-putTerm l n k t =
-    put (put (put l (32 + 8 * k) (bytes 8 (t .ann))) (32 + 8 * n + 8 * k) (bytes 8 (t .cre))) (32 + 16 * n + 8 * k) (bytes 8 (bitsOf t))
+-- and the length is the header's
+unfoldable pub laidOut : List ℕ → Bool
+laidOut l = goodHeader l && eqb (length l) (totalOf l)
+
+-- the columns of n terms as places, for the sort
+abbrev pub columnPlaces : ℕ → Places
+columnPlaces n = record { ann = 32; cre = 32 + 8 * n; coeff = 32 + 16 * n; step = 8 }

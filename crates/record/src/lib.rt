@@ -3,19 +3,25 @@ use modes::MadeSpace;
 use modes::ModeSpace;
 use modes::Refusal;
 use modes::Term;
+use modes::Written;
+use rows::Places;
 ghost use mathlib.Core.Path.{_≡_};
 ghost use mathlib.Core.Bool.{true, false, _||_};
 ghost use Prim.Native.Nat.{_+_, _*_, _-_, _≤_, _<_, _^_, max};
 ghost use lib.IntN.{natAbs};
-ghost use lib.ListN.{length};
+ghost use lib.ListN.{length, set};
 ghost use Rattle.lent.specs.Bytes.{put};
 ghost use Rattle.modes.specs.Answers.{refusal, none};
 ghost use Rattle.record.specs.Numbers.{numbers, sameNumbers};
 ghost use Rattle.record.specs.Terms.{before, Ascending};
-ghost use Rattle.record.specs.Layout.{fields, header, modesOf, countOf, termsIn, termsOf, laidOut, putTerm};
+ghost use Rattle.record.specs.Layout.{fields, header, modesOf, countOf, termsIn, termsOf, laidOut, putTerm, recordLength, encode, goodHeader, columnPlaces};
 ghost use Rattle.modes.specs.Spaces.{inside};
 ghost use Rattle.record.specs.Refusals.{termRefusal, refusalOf, refusedRecord, checkedOf};
 ghost use Rattle.record.specs.Reading.{At, Holds};
+ghost use Rattle.lent.specs.Outputs.{Gives, filledOutput};
+ghost use Rattle.rows.specs.Sorted.{Arranged};
+ghost use Rattle.modes.specs.Words.{bit};
+ghost use Rattle.modes.specs.Counts.{count};
 ghost use Rattle.record.specs.Weights.{heavierBy};
 ghost use Rattle.record.specs.Blocks.{countIf, earlier, annBelow, blockOf, bytesIn};
 
@@ -55,6 +61,14 @@ pub struct Tested {
     pub holds: bool,
 }
 
+// How many bytes a record of n terms has.
+pub fn length_of(n: usize) -> usize
+    requires { ⌜ n < 2 ^ 32 ⌝ }
+    ensures { λ r. ⌜ r ≡ recordLength n ⌝ }
+{
+    32 + 24 * n
+}
+
 // Is the header that of m modes and n terms?
 fn header_is(s: &[u8], m: usize, n: usize) -> bool
     requires { ⌜ (32 ≤ length (now s)) × (n ≤ 2048) ⌝ }
@@ -78,24 +92,19 @@ fn header_is(s: &[u8], m: usize, n: usize) -> bool
     if lent::half(s, 20) != 32 + 16 * n {
         return false;
     }
-    if lent::half(s, 24) != 32 + 24 * n {
+    if lent::half(s, 24) != length_of(n) {
         return false;
     }
     lent::half(s, 28) == 0
 }
 
-// Number 1: header, length, mode count and number of terms.
-fn laid_out(s: &[u8]) -> bool
-    ensures { λ r. ⌜ r ≡ laidOut (now (s .entry)) ⌝ }
+// Is the header good? The length is not looked at.
+fn good_header(s: &[u8]) -> bool
+    requires { ⌜ 32 ≤ length (now s) ⌝ }
+    ensures { λ r. ⌜ r ≡ goodHeader (now (s .entry)) ⌝ }
 {
-    if s.len() < 32 {
-        return false;
-    }
     let m = lent::half(s, 4);
     let n = lent::half(s, 8);
-    if s.len() != 32 + 24 * n {
-        return false;
-    }
     let MadeSpace::Made(_) = ModeSpace::from_count(m as u64) else {
         return false;
     };
@@ -103,6 +112,32 @@ fn laid_out(s: &[u8]) -> bool
         return false;
     }
     header_is(s, m, n)
+}
+
+// Number 1: a good header, and the length that it tells.
+fn laid_out(s: &[u8]) -> bool
+    ensures { λ r. ⌜ r ≡ laidOut (now (s .entry)) ⌝ }
+{
+    if s.len() < 32 {
+        return false;
+    }
+    if !good_header(s) {
+        return false;
+    }
+    s.len() == lent::half(s, 24)
+}
+
+// Where the columns of n terms lie.
+fn column_places(n: usize) -> Places
+    requires { ⌜ n < 2 ^ 32 ⌝ }
+    ensures { λ r. ⌜ r ≡ columnPlaces n ⌝ }
+{
+    Places {
+        ann: 32,
+        cre: 32 + 8 * n,
+        coeff: 32 + 16 * n,
+        step: 8,
+    }
 }
 
 // The i-th of n terms. Whatever reads a record reads it by this.
@@ -240,7 +275,7 @@ pub fn check(s: &[u8], operand: u64) -> Checked
 }
 
 // The header of m modes and n terms to the front.
-pub fn put_header(out: &mut [u8], m: u64, n: usize)
+fn put_header(out: &mut [u8], m: u64, n: usize)
     requires { ⌜ (32 ≤ length (now out)) × (n ≤ 2048) ⌝ }
     ensures { λ _. ⌜ now (out .exit) ≡ put (now (out .entry)) 0 (header m n) ⌝ }
 {
@@ -254,14 +289,37 @@ pub fn put_header(out: &mut [u8], m: u64, n: usize)
     lent::put_half(out, 28, 0);
 }
 
-// The k-th of n terms to its three columns.
+// The k-th of n terms to its place. Whatever writes a record writes its terms by this, and then finishes it.
 pub fn put_term(out: &mut [u8], n: usize, k: usize, t: Term)
     requires { ⌜ Holds (now out) n × (k < n) ⌝ }
-    ensures { λ _. ⌜ now (out .exit) ≡ putTerm (now (out .entry)) n k t ⌝ }
+    ensures { λ _. ⌜ termsIn (now (out .exit)) n ≡ set (termsIn (now (out .entry)) n) k t ⌝ }
 {
     lent::put_word(out, 32 + 8 * k, t.ann);
     lent::put_word(out, 32 + 8 * n + 8 * k, t.cre);
     lent::put_word(out, 32 + 16 * n + 8 * k, integers::bits(t.coeff));
+}
+
+// The n terms that were put there, sorted where they stand.
+pub fn sort_terms(out: &mut [u8], n: usize)
+    requires { ⌜ Holds (now out) n × (n ≤ 2048) ⌝ }
+    ensures { λ _. ⌜ Arranged n (termsIn (now (out .entry)) n) (termsIn (now (out .exit)) n) ⌝ }
+{
+    rows::sort(out, column_places(n), n);
+}
+
+// The n terms that were put there become the record on m modes: the header in front of them, and zeros past them.
+pub fn finish(out: &mut [u8], m: u64, n: usize, branches: u64) -> Written
+    requires { ⌜ Holds (now out) n × (n ≤ 2048) ⌝ }
+    ensures { λ r. ⌜ Gives (filledOutput (length (now (out .entry))) branches (encode m (termsIn (now (out .entry)) n))) r (now (out .exit)) ⌝ }
+{
+    put_header(out, m, n);
+    let len = length_of(n);
+    lent::wipe_from(out, len);
+    Written {
+        refusal: Refusal::NONE,
+        len,
+        branches,
+    }
 }
 
 // How many of the n terms stand before t, found by halving.

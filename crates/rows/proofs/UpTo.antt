@@ -5,7 +5,7 @@ use mathlib.Core.Logic.{_⊎_, inl, inr}
 use Prim.Native.Nat.{ℕ, zero, suc, _≤_, _<_}
 use native.Mathlib.Omega.{arith}
 use lib.ListN.{length, length-append, List·getD-append, List·getD-eq-default}
-use lib.Seq.{getD-at}
+use lib.Seq.{ext-getD, getD-at}
 use Rattle.modes.specs.declared.Term.{Term}
 use Rattle.modes.specs.Every.{Every, none, more}
 use Rattle.rows.specs.Terms.{at, upTo}
@@ -37,6 +37,11 @@ pub up-to-same : (f g : ℕ → Term) (n : ℕ) → ((k : ℕ) → k < n → f k
 unfolding upTo
 up-to-same f g zero h = refl
 up-to-same f g (suc n) h = λ i. up-to-same f g n (λ k b. h k (omega arith)) i ++ (h n (omega arith) i ∷ [])
+
+-- a list by index
+pub up-to-at : (ts : List Term) (n : ℕ) → length ts ≡ n → upTo (at ts) n ≡ ts
+unfolding at
+up-to-at ts n e = ext-getD _ (upTo (at ts) n) ts (length-up-to (at ts) n ∙ sym e) (λ i b. at-up-to (at ts) n i (rw (length-up-to (at ts) n) at b))
 
 -- what holds at each index holds of every term, and the other way
 pub every-at : (P : Term → Type 0) (ts : List Term) → Every P ts → (k : ℕ) → k < length ts → P (at ts k)

@@ -13,7 +13,7 @@ use Rattle.modes.specs.declared.Refusal.{Refusal}
 use Rattle.modes.specs.Answers.{refusal, none}
 use Rattle.lent.specs.Outputs.{Output, refusedOutput, filledOutput}
 use Rattle.record.specs.Terms.{before, weight}
-use Rattle.record.specs.Layout.{laidOut, encode, modesOf, countOf, termsOf}
+use Rattle.record.specs.Layout.{laidOut, encode, modesOf, countOf, termsOf, recordLength}
 use Rattle.modes.specs.Refusals.{orElse}
 use Rattle.modes.specs.Spaces.{inside}
 use Rattle.record.specs.Refusals.{termRefusal, termsRefusal, refusalOf}
@@ -100,11 +100,11 @@ module _ {room : ℕ} where
   lawful-result n w =
       lawful-test (leb n 2048) (refusal 10 0 0) _ (λ z. absurd (omega arith)) (plain 10 0 0 (omega arith) (omega arith) (omega arith))
       (λ e. lawful-or (cond (leb w (2 ^ 60)) none (refusal 9 0 0)) _ (unless (leb w (2 ^ 60)) (refusal 9 0 0) (plain 9 0 0 (omega arith) (omega arith) (omega arith)))
-      (longer (leb (32 + 24 * n) room) refl (leb-true n 2048 e)))
+      (longer (leb (recordLength n) room) refl (leb-true n 2048 e)))
     where
-      longer : (s : Bool) → leb (32 + 24 * n) room ≡ s → n ≤ 2048 → Lawful room (cond s none (refusal 11 0 0))
+      longer : (s : Bool) → leb (recordLength n) room ≡ s → n ≤ 2048 → Lawful room (cond s none (refusal 11 0 0))
       longer true e h = fine
-      longer false e h = record { number = omega arith; operand = omega arith; place = omega arith; eleven = λ _. omega (arith, leb-false (32 + 24 * n) room e) }
+      longer false e h = record { number = omega arith; operand = omega arith; place = omega arith; eleven = λ _. omega (arith, leb-false (recordLength n) room e) }
 
   lawful-pair : (a b : List ℕ) → Lawful room (pairRefusal a b)
   unfolding pairRefusal

@@ -16,10 +16,10 @@ use Rattle.modes.specs.declared.Written.{Written}
 use Rattle.modes.specs.Answers.{refusal}
 use Rattle.lent.specs.Bytes.{zeros}
 use Rattle.lent.specs.Outputs.{Output, refusedOutput, filledOutput}
-use Rattle.record.specs.Layout.{encode}
+use Rattle.record.specs.Layout.{encode, totalOf}
 use Rattle.record.specs.Outputs.{recordOutput}
 use Rattle.multiply.specs.Answers.{commutatorOf, Leaves}
-use Rattle.stream.specs.Replies.{totalOf, holdsFirst, answerTo, textOf, Says, Replies}
+use Rattle.stream.specs.Replies.{holdsFirst, answerTo, textOf, Says, Replies}
 use Rattle.stream.specs.Lines.{lineIn}
 
 pub leaves-as : {o q : Output} {r : Written} {x : List ℕ} {room : ℕ} {w : List ℕ} → o ≡ q → Leaves o r x room w → Leaves q r x room w

@@ -15,7 +15,7 @@ use Rattle.modes.proofs.Digits.{lt-or-ge}
 use Rattle.lent.specs.Bytes.{num, numAt}
 use Rattle.lent.specs.Outputs.{Output, Gives, refusedOutput}
 use Rattle.record.specs.Numbers.{numbers}
-use Rattle.record.specs.Layout.{laidOut, modesOf, countOf, termsOf}
+use Rattle.record.specs.Layout.{laidOut, modesOf, countOf, termsOf, recordLength, totalOf}
 use Rattle.modes.specs.Refusals.{orElse}
 use Rattle.record.specs.Refusals.{refusalOf}
 use Rattle.record.proofs.Header.{Laid, laid}
@@ -27,7 +27,7 @@ use Rattle.pairs.specs.Products.{allRows}
 use Rattle.multiply.specs.Answers.{earlyRefusal, commutatorOf}
 use Rattle.multiply.proofs.Theorems.{product-accepted, product-modes, commutator-elements}
 use Rattle.stream.specs.Lines.{refusedLine, lineIn}
-use Rattle.stream.specs.Replies.{totalOf, firstOf, secondOf, holdsFirst, answerTo, textOf, replyTo, Replies}
+use Rattle.stream.specs.Replies.{firstOf, secondOf, holdsFirst, answerTo, textOf, replyTo, Replies}
 use Rattle.stream.specs.Reported.{Commutator, Reported, line, result}
 use Rattle.stream.proofs.Replies.{total-decides}
 use Rattle.stream.proofs.Bounds.{lawful-line, lawful-answer}
@@ -71,7 +71,7 @@ module _ (work room : ℕ) where
             let longer : length input < totalOf input = leb-false (totalOf input) (length input) (total-decides input there ∙ h) in
             let whole : firstOf input ≡ input = take-all (totalOf input) input (omega arith) in
             let laid-whole : Laid input = rw whole at k in
-            let total : totalOf input ≡ 32 + 24 * countOf input = ap (λ (xs : List ℕ). getD xs 6 0) (laid-whole .header) in
+            let total : totalOf input ≡ recordLength (countOf input) = ap (λ (xs : List ℕ). getD xs 6 0) (laid-whole .header) in
             omega (arith, laid-whole .size)
 
     -- THE FIRST RECORD: refused before anything else is looked at

@@ -6,15 +6,13 @@ use Prim.Native.Nat.{ℕ, _-_}
 use lib.Dec.{eqb, leb}
 use lib.ListN.{length, take, drop}
 use Rattle.modes.specs.Answers.{refusal}
-use Rattle.lent.specs.Bytes.{halfAt, zeros}
+use Rattle.lent.specs.Bytes.{zeros}
 use Rattle.lent.specs.Outputs.{Output, refusedOutput}
+use Rattle.record.specs.Layout.{totalOf}
 use Rattle.multiply.specs.Answers.{commutatorOf}
 use Rattle.stream.specs.Lines.{lineIn}
 
 -- the first record ends at its header's total, and the second is all that follows
-abbrev pub totalOf : List ℕ → ℕ
-totalOf input = halfAt input 24
-
 abbrev pub firstOf : List ℕ → List ℕ
 firstOf input = take (totalOf input) input
 

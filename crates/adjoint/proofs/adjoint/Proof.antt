@@ -24,11 +24,8 @@ returns c =
     let refuse = c .before .before .refuse in
     subst (λ (o : Output). Gives o (refuse .result) (refuse .last .0)) (adjointed-refused (length (s .args .out .now)) (s .args .a .now) _ (c .before .before .before .before .before .before .before .check .ensures) (c .before .before .before .before .before .if1 .taken)) (refuse .ensures)
 
-mul-len : tie.Need-mul-len
-mul-len c = record { fits = omega (arith, few 0 _ _ (accepted 1 _ _ (c .before .before .check .ensures) (c .if1 .left))) }
-
-add-len : tie.Need-add-len
-add-len c = record { fits = omega (arith, few 0 _ _ (accepted 1 _ _ (c .before .before .check .ensures) (c .if1 .left))) }
+length-of-requires : tie.Need-length-of-requires
+length-of-requires c κs = omega (arith, few 0 _ _ (accepted 1 _ _ (c .before .before .check .ensures) (c .if1 .left)))
 
 refuse-requires-2 : tie.Need-refuse-requires-2
 refuse-requires-2 c κs = search needs
@@ -38,25 +35,33 @@ same-length-2 c = search needs
 
 returns-2 : tie.Need-returns-2
 returns-2 c =
-    let s = c .before .before .before .before .before .before .before .before .before .before in
+    let at-if2 = c .before .before .before .before in
+    let at-if1 = at-if2 .before .before in
+    let at-check = at-if1 .before .before in
+    let s = at-check .before .before .before in
     let refuse = c .before .before .refuse2 in
-    let k = accepted 1 (s .args .a .now) _ (c .before .before .before .before .before .before .before .check .ensures) (c .before .before .before .before .before .if1 .left) in
-    subst (λ (o : Output). Gives o (refuse .result) (refuse .last .0)) (adjointed-short (length (s .args .out .now)) (s .args .a .now) _ k (c .before .before .before .before .if2 .taken)) (refuse .ensures)
+    let k = accepted 1 (s .args .a .now) _ (at-check .check .ensures) (at-if1 .if1 .left) in
+    subst (λ (o : Output). Gives o (refuse .result) (refuse .last .0)) (adjointed-short (length (s .args .out .now)) (s .args .a .now) _ k (omega (arith, at-if2 .before .length-of .ensures))) (refuse .ensures)
 
 write-adjoint-requires : tie.Need-write-adjoint-requires
 write-adjoint-requires c κs =
-    let s = c .before .before .before .before .before .before .before in
-    let k = accepted 1 (s .args .a .now) _ (c .before .before .before .before .check .ensures) (c .before .before .if1 .left) in
-    (k .held .size, c .before .if2 .left, canonical 0 (s .args .a .now) _ k)
+    let at-length = c .before .before in
+    let at-check = at-length .before .before .before in
+    let s = at-check .before .before .before in
+    let k = accepted 1 (s .args .a .now) _ (at-check .check .ensures) (at-length .before .if1 .left) in
+    (k .held .size, omega (arith, at-length .length-of .ensures), canonical 0 (s .args .a .now) _ k)
 
 same-length-3 : tie.Need-same-length-3
 same-length-3 c = search needs
 
 returns-3 : tie.Need-returns-3
 returns-3 c =
-    let s = c .before .before .before .before .before .before .before .before .before .before in
-    let k = accepted 1 (s .args .a .now) _ (c .before .before .before .before .before .before .before .check .ensures) (c .before .before .before .before .before .if1 .left) in
-    adjointed-filled (length (s .args .out .now)) (s .args .a .now) _ k _ (c .before .before .before .before .if2 .left) (c .before .before .write-adjoint .ensures)
+    let at-length = c .before .before .before .before .before in
+    let at-check = at-length .before .before .before in
+    let s = at-check .before .before .before in
+    let written = c .before .before .write-adjoint in
+    let k = accepted 1 (s .args .a .now) _ (at-check .check .ensures) (at-length .before .if1 .left) in
+    subst (λ (o : Output). Gives o (written .result) (written .last .1 .1 .1 .0)) (adjointed-filled (length (s .args .out .now)) (s .args .a .now) _ k (omega (arith, at-length .length-of .ensures))) (written .ensures)
 
 pub adjoint-spec : {M : Type 1} → statement M
 adjoint-spec =
@@ -66,8 +71,7 @@ adjoint-spec =
     refuse-requires
     same-length
     returns
-    mul-len
-    add-len
+    length-of-requires
     refuse-requires-2
     same-length-2
     returns-2

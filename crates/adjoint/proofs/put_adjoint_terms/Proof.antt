@@ -1,21 +1,23 @@
--- `adjoint::put_adjoint_terms` meets its contract. The invariant: `i` adjoint terms stand in their columns.
+-- `adjoint::put_adjoint_terms` meets its contract. The invariant: the first `i` adjoint terms stand there.
+use mathlib.Core.Path.{_≡_, refl, _∙_}
 use Prim.Native.Nat.{_-_}
+use lib.ListN.{length}
 use native.Mathlib.Omega.{arith}
 use Rattle.record.specs.Layout.{termsIn}
 use Rattle.record.proofs.Reading.{length-terms}
-use Rattle.adjoint.proofs.Writing.{Filling, filling-starts, filling-length, filling-goes, filling-ends, every-drop}
+use Rattle.adjoint.proofs.Writing.{Filling, filling-starts, filling-goes, filling-ends, every-drop}
 use borrow.Author.Needs.{needs}
 use Rattle.adjoint.proofs.put_adjoint_terms.Statement.{statement}
 use Rattle.adjoint.proofs.put_adjoint_terms.Tie as tie
 
 abbrev Inv-loop : tie.InvT-loop
-Inv-loop a n out₀ i₀ out i = Filling out₀ n (termsIn a n) i out
+Inv-loop a n out₀ i₀ out i = Filling n (termsIn a n) i out × (length out ≡ length out₀)
 
 abbrev μ-loop : tie.MeasureT-loop
 μ-loop a n out₀ i₀ out i = n - i
 
 loop-holds : tie.Need-loop-holds Inv-loop μ-loop
-loop-holds c = filling-starts _ _ _
+loop-holds c = (filling-starts _ _ _, refl)
 
 read-term-requires : tie.Need-read-term-requires Inv-loop μ-loop
 read-term-requires c κs = search needs
@@ -26,7 +28,7 @@ adjoint-term-requires c κs = every-drop _ _ _ (c .before .before .loop .i) (c .
 put-term-requires : tie.Need-put-term-requires Inv-loop μ-loop
 put-term-requires c κs =
     let s = c .before .before .before .before .before .before .before in
-    (omega (arith, s .pre .1, filling-length _ _ _ _ _ (length-terms (s .args .a .now) (s .args .n)) (s .pre .1) (c .before .before .before .before .loop .inv)), search needs)
+    (omega (arith, s .pre .1, c .before .before .before .before .loop .inv .1), search needs)
 
 add-i : tie.Need-add-i Inv-loop μ-loop
 add-i c = search needs
@@ -36,17 +38,19 @@ loop-less c = search needs
 
 loop-again : tie.Need-loop-again Inv-loop μ-loop
 loop-again c =
-    let s = c .before .before .before .before .before .before .before .before .before .before in
-    filling-goes _ _ _ _ _ (length-terms (s .args .a .now) (s .args .n)) (s .pre .1) (c .before .before .before .before .before .before .before .loop .inv) _ _ _ _ (c .before .before .before .before .before .before .loop-test .taken) (c .before .before .before .before .before .read-term .ensures) (c .before .before .before .before .adjoint-term .ensures) (c .before .before .put-term .ensures)
+    let put = c .before .before .put-term in
+    let at-term = c .before .before .before .before in
+    let at-test = at-term .before .before in
+    let v = at-test .before .loop .inv in
+    (filling-goes _ _ _ _ (v .0) _ _ _ _ (at-test .loop-test .taken) (at-term .before .read-term .ensures) (at-term .adjoint-term .ensures) (put .ensures), put .kept .0 ∙ v .1)
 
 same-length : tie.Need-same-length Inv-loop μ-loop
-same-length c =
-    let s = c .before .before .before .before in filling-length _ _ _ _ _ (length-terms (s .args .a .now) (s .args .n)) (s .pre .1) (c .before .loop .inv)
+same-length c = c .before .loop .inv .1
 
 returns : tie.Need-returns Inv-loop μ-loop
 returns c =
-    let s = c .before .before .before .before in
-    filling-ends _ _ _ _ _ (length-terms (s .args .a .now) (s .args .n)) (s .pre .1) (c .before .loop .inv) (c .loop-test .left)
+    let s = c .before .before .before .before .args in
+    filling-ends _ _ _ _ (c .before .loop .inv .0) (length-terms (s .a .now) (s .n)) (c .loop-test .left)
 
 pub put-adjoint-terms-spec : {M : Type 1} → statement M
 put-adjoint-terms-spec =

@@ -1,22 +1,23 @@
--- `lincomb::put_terms` meets its contract. The invariant: the terms so far stand in their columns, and the rest is to come.
+-- `lincomb::put_terms` meets its contract. The invariant: the terms so far stand in their places, and the rest is to come.
 use borrow.Author.Needs.{needs}
-use mathlib.Core.Path.{sym, _∙_}
+use mathlib.Core.Path.{_≡_, refl, sym, _∙_}
 use Prim.Native.Nat.{_+_, _-_, _≤_}
 use native.Mathlib.Omega.{arith}
+use lib.ListN.{length}
 use Rattle.lincomb.specs.Merging.{onward}
 use Rattle.lincomb.proofs.Merging.{spent}
-use Rattle.lincomb.proofs.Writing.{Writing, writing-starts, writing-ends, in-room, leaves-out, has-place, writes}
+use Rattle.lincomb.proofs.Writing.{Writing, writing-starts, writing-ends, leaves-out, has-place, writes}
 use Rattle.lincomb.proofs.put_terms.Statement.{statement}
 use Rattle.lincomb.proofs.put_terms.Tie as tie
 
 abbrev Inv-loop : tie.InvT-loop
-Inv-loop sign a na b nb out₀ n i₀ j₀ k₀ out i j k = (i ≤ na) × (j ≤ nb) × Writing out₀ n (onward (sign .0) a na b nb 0 0) (onward (sign .0) a na b nb i j) k out
+Inv-loop sign a na b nb out₀ n i₀ j₀ k₀ out i j k = (i ≤ na) × (j ≤ nb) × Writing n (onward (sign .0) a na b nb 0 0) (onward (sign .0) a na b nb i j) k out × (length out ≡ length out₀)
 
 abbrev μ-loop : tie.MeasureT-loop
 μ-loop sign a na b nb out₀ n i₀ j₀ k₀ out i j k = na + nb - (i + j)
 
 loop-holds : tie.Need-loop-holds Inv-loop μ-loop
-loop-holds c = (search needs, search needs, writing-starts _ _ _)
+loop-holds c = (search needs, search needs, writing-starts _ _ _, refl)
 
 add-loop : tie.Need-add-loop Inv-loop μ-loop
 add-loop c = search needs
@@ -32,10 +33,12 @@ size-requires c κs = search needs
 
 put-term-requires : tie.Need-put-term-requires Inv-loop μ-loop
 put-term-requires c κs =
-    let p = c .before .before .before .before .before .before .before .before .before .before .pre .1 in
-    let v = c .before .before .before .before .before .before .loop .inv .2 in
-    let place = has-place _ _ _ _ (p .0) (p .1) _ _ v _ _ (c .before .before .before .before .next .ensures .front) (λ e. c .before .if1 .taken (c .before .before .size .ensures .0 ∙ e)) in
-    (omega (arith, in-room _ _ _ _ (p .0) (p .1) _ _ v, p .1), place)
+    let at-size = c .before .before in
+    let at-next = at-size .before .before in
+    let at-loop = at-next .before .before in
+    let p = at-loop .before .before .before .before .pre .1 in
+    let v = at-loop .loop .inv in
+    (omega (arith, v .3, p .1), has-place _ _ _ (p .0) _ _ (v .2) _ _ (at-next .next .ensures .front) (λ e. c .before .if1 .taken (at-size .size .ensures .0 ∙ e)))
 
 add-k : tie.Need-add-k Inv-loop μ-loop
 add-k c =
@@ -43,9 +46,8 @@ add-k c =
     let at-size = at-if1 .before in
     let at-next = at-size .before .before in
     let at-loop = at-next .before .before in
-    let at-start = at-loop .before .before .before .before in
-    let p = at-start .pre .1 in
-    omega (arith, has-place _ _ _ _ (p .0) (p .1) _ _ (at-loop .loop .inv .2) _ _ (at-next .next .ensures .front) (λ e. at-if1 .if1 .taken (at-size .size .ensures .0 ∙ e)))
+    let p = at-loop .before .before .before .before .pre .1 in
+    omega (arith, has-place _ _ _ (p .0) _ _ (at-loop .loop .inv .2) _ _ (at-next .next .ensures .front) (λ e. at-if1 .if1 .taken (at-size .size .ensures .0 ∙ e)))
 
 loop-less : tie.Need-loop-less Inv-loop μ-loop
 loop-less c = search needs
@@ -61,7 +63,8 @@ loop-again c =
     let s = at-next .next .ensures in (
       s .left-in,
       s .right-in,
-      writes _ _ _ _ (p .0) (p .1) _ _ (at-loop .loop .inv .2) _ _ (s .front) (λ e. at-if1 .if1 .taken (at-size .size .ensures .0 ∙ e)) _ (c .before .before .put-term .ensures),
+      writes _ _ _ (p .0) _ _ (at-loop .loop .inv .2) _ _ (s .front) (λ e. at-if1 .if1 .taken (at-size .size .ensures .0 ∙ e)) _ (c .before .before .put-term .ensures),
+      c .before .before .put-term .kept .0 ∙ at-loop .loop .inv .3,
     )
 
 loop-less-2 : tie.Need-loop-less-2 Inv-loop μ-loop
@@ -69,18 +72,21 @@ loop-less-2 c = search needs
 
 loop-again-2 : tie.Need-loop-again-2 Inv-loop μ-loop
 loop-again-2 c =
-    let p = c .before .before .before .before .before .before .before .before .before .pre .1 in
-    let s = c .before .before .before .next .ensures in
-    (s .left-in, s .right-in, leaves-out _ _ _ _ (p .0) (p .1) _ _ (c .before .before .before .before .before .loop .inv .2) _ _ (s .front) (sym (c .before .size .ensures .0) ∙ c .if1 .left))
+    let at-next = c .before .before .before in
+    let at-loop = at-next .before .before in
+    let p = at-loop .before .before .before .before .pre .1 in
+    let v = at-loop .loop .inv in
+    let s = at-next .next .ensures in
+    (s .left-in, s .right-in, leaves-out _ _ _ (p .0) _ _ (v .2) _ _ (s .front) (sym (c .before .size .ensures .0) ∙ c .if1 .left), v .3)
 
 same-length : tie.Need-same-length Inv-loop μ-loop
-same-length c = let p = c .before .before .before .before .before .pre .1 in in-room _ _ _ _ (p .0) (p .1) _ _ (c .before .loop .inv .2)
+same-length c = c .before .loop .inv .3
 
 returns : tie.Need-returns Inv-loop μ-loop
 returns c =
-    let p = c .before .before .before .before .before .pre .1 in
+    let s = c .before .before .before .before .before in
     let v = c .before .loop .inv in
-    writing-ends _ _ _ _ (p .0) (p .1) _ _ (v .2) (spent (c .before .before .before .before .before .args .sign .0) _ _ _ _ _ _ (v .0) (v .1) (omega arith))
+    writing-ends _ _ _ (s .pre .1 .0) _ _ (v .2) (spent (s .args .sign .0) _ _ _ _ _ _ (v .0) (v .1) (omega arith))
 
 pub put-terms-spec : {M : Type 1} → statement M
 put-terms-spec =

@@ -1,5 +1,6 @@
 -- `lincomb::verdict` meets its contract: 10 before 9 before 11.
 use Rattle.lincomb.proofs.Results.{too-many, too-heavy, too-long, none-late}
+use native.Mathlib.Omega.{arith}
 use borrow.Author.Needs.{needs}
 use Rattle.lincomb.proofs.verdict.Statement.{statement}
 use Rattle.lincomb.proofs.verdict.Tie as tie
@@ -10,17 +11,14 @@ returns c = too-many _ _ _ (c .if1 .taken)
 returns-2 : tie.Need-returns-2
 returns-2 c = too-heavy _ _ _ (c .before .if1 .left) (c .if2 .taken)
 
-mul-if3 : tie.Need-mul-if3
-mul-if3 c = search needs
-
-add-if3 : tie.Need-add-if3
-add-if3 c = search needs
+length-of-requires : tie.Need-length-of-requires
+length-of-requires c κs = search needs
 
 returns-3 : tie.Need-returns-3
-returns-3 c = too-long _ _ _ (c .before .before .if1 .left) (c .before .if2 .left) (c .if3 .taken)
+returns-3 c = too-long _ _ _ (c .before .before .before .if1 .left) (c .before .before .if2 .left) (omega (arith, c .before .length-of .ensures))
 
 returns-4 : tie.Need-returns-4
-returns-4 c = none-late _ _ _ (c .before .before .if1 .left) (c .before .if2 .left) (c .if3 .left)
+returns-4 c = none-late _ _ _ (c .before .before .before .if1 .left) (c .before .before .if2 .left) (omega (arith, c .before .length-of .ensures))
 
 pub verdict-spec : {M : Type 1} → statement M
-verdict-spec = tie.close (tie.spec returns returns-2 mul-if3 add-if3 returns-3 returns-4)
+verdict-spec = tie.close (tie.spec returns returns-2 length-of-requires returns-3 returns-4)

@@ -8,7 +8,7 @@ use Rattle.modes.specs.Answers.{none}
 use Rattle.lent.specs.Rows.{rowsAt}
 use Rattle.lent.proofs.RowLaws.{length-rows-at}
 use Rattle.record.proofs.Outputs.{refused-late, delivers, gives-as, record-given}
-use Rattle.lincomb.proofs.Results.{deliverable}
+use Rattle.lincomb.proofs.Results.{deliverable, Deliverable, refused-late, delivers}
 use Rattle.multiply.proofs.Delivering.{verdict-is}
 use Rattle.multiply.proofs.deliver.Statement.{statement}
 use Rattle.multiply.proofs.deliver.Tie as tie
@@ -32,42 +32,31 @@ returns c =
     let judged = verdict-is (length (s .args .out .now)) (s .args .work .now) (s .args .n) _ t _ (c .before .before .before .before .before .before .verdict .ensures) in
     gives-as (refused-late (length (s .args .out .now)) (s .args .branches) none _ (s .args .m) (rowsAt (s .args .work .now) 0 (s .args .n)) refl _ judged (c .before .before .before .before .if1 .taken)) (c .before .before .refuse .ensures)
 
-put-header-requires : tie.Need-put-header-requires
-put-header-requires c κs =
-    let s = c .before .before .before .before .before .before .before in
-    let room = (deliverable (length (s .args .out .now)) _ _ (ap (λ (r : Refusal). r .number) (sym (c .before .before .before .verdict .ensures)) ∙ c .before .if1 .left)) in
-    (omega (arith, room .long), room .few)
+-- what was not refused can be delivered
+ready : (k : tie.After-put-terms-arg) → let s = k .before .before .before .before .before .before .before .args in Deliverable (length (s .out .now)) (s .n) (k .before .before .before .before .tally .result .weight)
+ready k = deliverable _ _ _ (ap (λ (r : Refusal). r .number) (sym (k .before .before .before .verdict .ensures)) ∙ k .before .if1 .left)
 
 put-terms-requires : tie.Need-put-terms-requires
-put-terms-requires c κs =
-    let s = c .before .before .before .before .before .before .before .before .before .before .before in
-    let room = (deliverable (length (s .args .out .now)) _ _ (ap (λ (r : Refusal). r .number) (sym (c .before .before .before .before .before .before .before .verdict .ensures)) ∙ c .before .before .before .before .before .if1 .left)) in
-    (s .pre, omega (arith, room .long, c .before .before .before .put-header .kept .0))
+put-terms-requires c κs = (c .before .before .before .before .before .before .before .pre, ready c .long)
 
-mul-end : tie.Need-mul-end
-mul-end c = search needs
-
-add-end : tie.Need-add-end
-add-end c = search needs
-
-wipe-from-requires : tie.Need-wipe-from-requires
-wipe-from-requires c κs =
-    let s = c .before .before .before .before .before .before .before .before .before .before .before .before .before .before .before in
-    let room = (deliverable (length (s .args .out .now)) _ _ (ap (λ (r : Refusal). r .number) (sym (c .before .before .before .before .before .before .before .before .before .before .before .verdict .ensures)) ∙ c .before .before .before .before .before .before .before .before .before .if1 .left)) in
-    omega (arith, room .long, c .before .before .before .before .before .before .before .put-header .kept .0, c .before .before .before .put-terms .kept .1 .1 .0)
+finish-requires : tie.Need-finish-requires
+finish-requires c κs =
+    let put = c .before .before .before in
+    let room = ready (put .before) in
+    (omega (arith, room .long, put .put-terms .kept .1 .1 .0), room .few)
 
 same-length-2 : tie.Need-same-length-2
 same-length-2 c = search needs
 
 returns-2 : tie.Need-returns-2
 returns-2 c =
-    let s = c .before .before .before .before .before .before .before .before .before .before .before .before .before .before .before .before .before .before in
-    let t = c .before .before .before .before .before .before .before .before .before .before .before .before .before .before .before .tally .ensures in
-    let judged = verdict-is (length (s .args .out .now)) (s .args .work .now) (s .args .n) _ t _ (c .before .before .before .before .before .before .before .before .before .before .before .before .before .before .verdict .ensures) in
-    let room = (deliverable (length (s .args .out .now)) _ _ (ap (λ (r : Refusal). r .number) (sym (c .before .before .before .before .before .before .before .before .before .before .before .before .before .before .verdict .ensures)) ∙ c .before .before .before .before .before .before .before .before .before .before .before .before .if1 .left)) in
-    gives-as (delivers (length (s .args .out .now)) (s .args .branches) none _ (s .args .m) (rowsAt (s .args .work .now) 0 (s .args .n)) refl _ judged (c .before .before .before .before .before .before .before .before .before .before .before .before .if1 .left))
-    (record-given (s .args .out .now) _ _ _ (s .args .branches) (s .args .m) (s .args .n) (rowsAt (s .args .work .now) 0 (s .args .n)) (sym (length-rows-at (s .args .work .now) 0 (s .args .n))) (room .long)
-    (c .before .before .before .before .before .before .before .before .before .before .put-header .ensures) (c .before .before .before .before .before .before .put-terms .ensures) (c .before .before .wipe-from .ensures))
+    let put = c .before .before .before .before .before .before in
+    let chosen = put .before .before in
+    let verdict = chosen .before .before in
+    let s = verdict .before .before .before .before .args in
+    let judged = verdict-is (length (s .out .now)) (s .work .now) (s .n) _ (verdict .before .tally .ensures) _ (verdict .verdict .ensures) in
+    gives-as (delivers (length (s .out .now)) (s .branches) none _ (s .m) (rowsAt (s .work .now) 0 (s .n)) refl _ judged (chosen .if1 .left))
+    (rw (put .put-terms .kept .1 .1 .0, put .put-terms .ensures) at (c .before .before .finish .ensures))
 
 pub deliver-spec : {M : Type 1} → statement M
 deliver-spec =
@@ -78,10 +67,7 @@ deliver-spec =
     refuse-requires
     same-length
     returns
-    put-header-requires
     put-terms-requires
-    mul-end
-    add-end
-    wipe-from-requires
+    finish-requires
     same-length-2
     returns-2)

@@ -1,19 +1,23 @@
--- `multiply::put_terms` meets its contract: the rows so far stand in their columns.
+-- `multiply::put_terms` meets its contract: the rows so far stand in their places.
+use mathlib.Core.Path.{_≡_, refl, _∙_}
 use Prim.Native.Nat.{_-_, _≤_}
+use lib.ListN.{length}
 use native.Mathlib.Omega.{arith}
-use Rattle.multiply.proofs.Delivering.{Spreading, spreading-starts, spreading-room, spreading-goes, spreading-ends}
+use Rattle.lent.specs.Rows.{rowsAt}
+use Rattle.multiply.proofs.Delivering.{Placing, placing-goes, placing-ends}
 use borrow.Author.Needs.{needs}
 use Rattle.multiply.proofs.put_terms.Statement.{statement}
 use Rattle.multiply.proofs.put_terms.Tie as tie
 
 abbrev Inv-loop : tie.InvT-loop
-Inv-loop work n out₀ i₀ out i = (i ≤ n) × Spreading work n out₀ i out
+Inv-loop work n out₀ i₀ out i = (i ≤ n) × Placing work n i out × (length out ≡ length out₀)
 
 abbrev μ-loop : tie.MeasureT-loop
 μ-loop work n out₀ i₀ out i = n - i
 
 loop-holds : tie.Need-loop-holds Inv-loop μ-loop
-loop-holds c = let s = c .before .before in (search needs, spreading-starts (s .args .work .now) (s .args .n) (s .args .out .now) (s .pre .1))
+unfolding rowsAt
+loop-holds c = (search needs, refl, refl)
 
 mul-get-row : tie.Need-mul-get-row Inv-loop μ-loop
 mul-get-row c = search needs
@@ -24,8 +28,7 @@ get-row-requires c κs = search needs
 put-term-requires : tie.Need-put-term-requires Inv-loop μ-loop
 put-term-requires c κs =
     let s = c .before .before .before .before .before .before in
-    let v = c .before .before .before .loop in
-    (omega (arith, spreading-room (s .args .work .now) (s .args .n) (s .args .out .now) (s .pre .1) (v .i) (v .out) (v .inv .1) (v .inv .0), s .pre .1), omega (arith, c .before .before .loop-test))
+    (omega (arith, c .before .before .before .loop .inv .2, s .pre .1), omega (arith, c .before .before .loop-test))
 
 add-i : tie.Need-add-i Inv-loop μ-loop
 add-i c = search needs
@@ -35,21 +38,19 @@ loop-less c = search needs
 
 loop-again : tie.Need-loop-again Inv-loop μ-loop
 loop-again c =
-    let s = c .before .before .before .before .before .before .before .before .before in
-    let v = c .before .before .before .before .before .before .loop in
-    (omega (arith, c .before .before .before .before .before .loop-test), spreading-goes (s .args .work .now) (s .args .n) (s .args .out .now) (s .pre .1) (v .i) (v .out) (v .inv .1) (omega (arith, c .before .before .before .before .before .loop-test)) _ (c .before .before .before .get-row .ensures .0) _ (c .before .before .put-term .ensures))
+    let put = c .before .before .put-term in
+    let at-test = c .before .before .before .before .before in
+    let v = at-test .before .loop in (
+      omega (arith, at-test .loop-test),
+      placing-goes _ _ (v .i) (v .out) (v .inv .1) (omega (arith, at-test .loop-test)) _ (c .before .before .before .get-row .ensures .0) _ (put .ensures),
+      put .kept .0 ∙ v .inv .2,
+    )
 
 same-length : tie.Need-same-length Inv-loop μ-loop
-same-length c =
-    let s = c .before .before .before .before in
-    let v = c .before .loop in
-    spreading-room (s .args .work .now) (s .args .n) (s .args .out .now) (s .pre .1) (v .i) (v .out) (v .inv .1) (v .inv .0)
+same-length c = c .before .loop .inv .2
 
 returns : tie.Need-returns Inv-loop μ-loop
-returns c =
-    let s = c .before .before .before .before in
-    let v = c .before .loop in
-    spreading-ends (s .args .work .now) (s .args .n) (s .args .out .now) (s .pre .1) (v .i) (v .out) (v .inv .1) (v .inv .0) (omega arith)
+returns c = let v = c .before .loop in placing-ends _ _ (v .i) (v .out) (v .inv .1) (v .inv .0) (omega arith)
 
 pub put-terms-spec : {M : Type 1} → statement M
 put-terms-spec =

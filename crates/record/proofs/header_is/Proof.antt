@@ -65,15 +65,12 @@ returns-6 c = differ-at 5 _ _ (λ e. c .if6 .taken (c .before .half6 .ensures .0
 half-requires-7 : tie.Need-half-requires-7
 half-requires-7 c κs = search needs
 
-mul-if7 : tie.Need-mul-if7
-mul-if7 c = search needs
-
-add-if7 : tie.Need-add-if7
-add-if7 c = search needs
+length-of-requires : tie.Need-length-of-requires
+length-of-requires c κs = search needs
 
 returns-7 : tie.Need-returns-7
 unfolding numbers
-returns-7 c = differ-at 6 _ _ (λ e. c .if7 .taken (c .before .half7 .ensures .0 ∙ e))
+returns-7 c = differ-at 6 _ _ (λ e. c .if7 .taken (c .before .before .half7 .ensures .0 ∙ e ∙ sym (c .before .length-of .ensures)))
 
 half-requires-8 : tie.Need-half-requires-8
 half-requires-8 c κs = search needs
@@ -82,7 +79,7 @@ returns-8 : tie.Need-returns-8
 unfolding numbers sameNumbers
 returns-8 c =
     let c7 = c .before in
-    let c6 = c7 .before .before in
+    let c6 = c7 .before .before .before in
     let c5 = c6 .before .before in
     let c4 = c5 .before .before in
     let c3 = c4 .before .before in
@@ -96,7 +93,7 @@ returns-8 c =
       eq-eqb _ _ (sym (c4 .before .half4 .ensures .0) ∙ c4 .if4 .left),
       eq-eqb _ _ (sym (c5 .before .half5 .ensures .0) ∙ c5 .if5 .left),
       eq-eqb _ _ (sym (c6 .before .half6 .ensures .0) ∙ c6 .if6 .left),
-      eq-eqb _ _ (sym (c7 .before .half7 .ensures .0) ∙ c7 .if7 .left),
+      eq-eqb _ _ (sym (c7 .before .before .half7 .ensures .0) ∙ c7 .if7 .left ∙ c7 .before .length-of .ensures),
     ) (sym (and-true _))
 
 pub header-is-spec : {M : Type 1} → statement M
@@ -120,8 +117,7 @@ header-is-spec =
     add-if6
     returns-6
     half-requires-7
-    mul-if7
-    add-if7
+    length-of-requires
     returns-7
     half-requires-8
     returns-8)

@@ -1,6 +1,10 @@
 -- `record::put_term` meets its contract.
 use mir.Facts.{toZ-ofZ}
-use Rattle.record.specs.Layout.{putTerm}
+use mir.Syntax.{w64}
+use mir.Val.{SFits}
+use Rattle.lent.specs.Rows.{Fit}
+use Rattle.rows.specs.Places.{putIn}
+use Rattle.record.proofs.Columns.{term-put}
 use borrow.Author.Needs.{needs}
 use Rattle.record.proofs.put_term.Statement.{statement}
 use Rattle.record.proofs.put_term.Tie as tie
@@ -51,8 +55,13 @@ same-length : tie.Need-same-length
 same-length c = search needs
 
 returns : tie.Need-returns
-unfolding putTerm
-returns c = cc (toZ-ofZ (record { sfits = c .before .before .before .before .struct-told .given .1 .1 .0 .1 }))
+unfolding putIn
+returns c =
+    let told = c .before .before .before .before in
+    let s = told .before .before .before .before .before .before .before .before .before .before .before in
+    let small : SFits w64 (s .args .t .coeff) = record { sfits = told .struct-told .given .1 .1 .0 .1 } in
+    let fit : Fit (s .args .t) = record { ann = search needs; cre = search needs; coeff = small } in
+    term-put (s .args .out .now) _ (s .args .n) (s .args .k) (s .args .t) (s .pre .0) (s .pre .1) fit (cc (toZ-ofZ small))
 
 pub put-term-spec : {M : Type 1} → statement M
 put-term-spec =
