@@ -23,6 +23,7 @@ use Rattle.record.specs.Terms.{before, Above, Ascending, empty, above}
 use Rattle.record.specs.Blocks.{countIf, earlier}
 use Rattle.record.specs.Coefficients.{coeffOf}
 use Rattle.record.specs.Canonical.{Nonzero}
+use Rattle.record.specs.Counting.{countIf, earlier}
 use Rattle.record.proofs.Order.{before-one-way}
 use Rattle.record.proofs.Accepted.{abs-zero}
 use Rattle.normal.proofs.Totals.{coeff-normal}

@@ -1,18 +1,19 @@
 -- Terms at their columns: what is put there is read there, what is sorted there, and what finishes the record.
-use mathlib.Core.Path.{_≡_, sym, ap, ap₂, _∙_}
-use mathlib.Core.List.{List, [], _∷_, _++_}
+use mathlib.Core.Path.{_≡_, refl, sym, ap, ap₂, _∙_}
+use mathlib.Core.List.{List, [], _∷_, _++_, map}
 use mathlib.Core.Logic.{_⊎_, inl, inr}
-use Prim.Native.Nat.{ℕ, _+_, _*_, _-_, _≤_, _<_}
-use native.Mathlib.Nat.{zero-add}
+use Prim.Native.Nat.{ℕ, zero, suc, _+_, _*_, _-_, _≤_, _<_}
+use native.Mathlib.Nat.{zero-add, mul-suc}
 use native.Mathlib.Numerals.{add-one}
 use native.Mathlib.Omega.{arith}
 use lib.ListN.{length, take, drop, set, length-set}
-use lib.Seq.{ext-getD, getD-drop, getD-set-same, getD-set-other, take-suc-set, take-all, take-append-add}
+use lib.Seq.{ext-getD, getD-drop, getD-set-same, getD-set-other, take-suc-set, take-all, drop-nil, take-nil, take-append-add, drop-append-add}
 use Rattle.modes.specs.declared.Term.{Term}
 use Rattle.modes.specs.Answers.{wrote}
-use Rattle.lent.specs.Bytes.{put, zeros}
+use Rattle.lent.specs.Bytes.{bytes, put, zeros}
 use Rattle.lent.specs.Rows.{Fit}
 use Rattle.lent.specs.Outputs.{filledOutput, Gives}
+use Rattle.lent.proofs.Numbers.{length-bytes}
 use Rattle.lent.proofs.Puts.{length-put}
 use Rattle.rows.specs.Terms.{at}
 use Rattle.rows.specs.Apart.{Apart}
@@ -22,7 +23,8 @@ use Rattle.rows.proofs.Choices.{same-or}
 use Rattle.rows.proofs.UpTo.{up-to-at, up-to-same}
 use Rattle.rows.proofs.InPlaces.{put-same, put-other}
 use Rattle.rows.proofs.SortedTerms.{arranged}
-use Rattle.record.specs.Layout.{recordLength, header, columns, encode, termsIn, columnPlaces}
+use Rattle.record.specs.Numbers.{stored}
+use Rattle.record.specs.Layout.{recordLength, header, column, encode, termsIn, columnPlaces}
 use Rattle.record.specs.Reading.{Holds}
 use Rattle.record.proofs.Reading.{length-terms, term-at}
 use Rattle.record.proofs.Inverse.{Small, columns-read, length-header, length-encode}
@@ -94,3 +96,32 @@ finished out one two m n branches small room e1 e2 =
     ap₂ take (ap (λ (x : ℕ). x + 24 * n) (sym h)) (e1 ∙ put-front out (header m n)) ∙ take-append-add (header m n) _ (24 * n)
     ∙ ap₂ (λ (x : ℕ) (y : List ℕ). header m x ++ y) (sym (length-terms out n)) (ap (λ (x : ℕ). take (24 * n) (drop x out)) h ∙ sym (columns-read out small n room)) in
     record { answer = ap (λ (k : ℕ). wrote k branches) (sym size); bytes = e2 ∙ rw (front, long, size) }
+
+-- ---- parts of a column
+
+pub drop-take : {A : Type 0} (i k : ℕ) (l : List A) → drop i (take k l) ≡ take (k - i) (drop i l)
+drop-take zero k l = let e : k - 0 ≡ k = omega arith in rw e
+drop-take (suc i) zero l = let e : zero - suc i ≡ 0 = omega arith in rw e
+drop-take (suc i) (suc k) [] = sym (take-nil (suc k - suc i))
+drop-take (suc i) (suc k) (x ∷ l) = let e : suc k - suc i ≡ k - i = omega arith in rw e (drop-take i k l)
+
+pub column-none : (f : Term → ℕ) → column f [] ≡ []
+unfolding column stored
+column-none f = refl
+
+-- a part of a column is the column of a part
+pub column-take : (f : Term → ℕ) (k : ℕ) (ts : List Term) → take (8 * k) (column f ts) ≡ column f (take k ts)
+unfolding column stored
+column-take f zero ts = refl
+column-take f (suc k) [] = take-nil (8 * suc k)
+column-take f (suc k) (t ∷ ts) =
+    let m : 8 * suc k ≡ length (bytes 8 (f t)) + 8 * k = rw (length-bytes 8 (f t)) (omega (arith, mul-suc 8 k)) in
+    rw m (take-append-add (bytes 8 (f t)) (stored 8 (map f ts)) (8 * k) ∙ ap (λ (z : List ℕ). bytes 8 (f t) ++ z) (column-take f k ts))
+
+pub column-drop : (f : Term → ℕ) (k : ℕ) (ts : List Term) → drop (8 * k) (column f ts) ≡ column f (drop k ts)
+unfolding column stored
+column-drop f zero ts = refl
+column-drop f (suc k) [] = drop-nil (8 * suc k)
+column-drop f (suc k) (t ∷ ts) =
+    let m : 8 * suc k ≡ length (bytes 8 (f t)) + 8 * k = rw (length-bytes 8 (f t)) (omega (arith, mul-suc 8 k)) in
+    rw m (drop-append-add (bytes 8 (f t)) (stored 8 (map f ts)) (8 * k) ∙ column-drop f k ts)

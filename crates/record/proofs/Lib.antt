@@ -10,6 +10,7 @@ pub mod Inverse
 pub mod Coefficients
 pub mod SameElements
 pub mod Columns
+pub mod Halving
 pub mod Blocks
 pub mod Example
 pub mod Unique

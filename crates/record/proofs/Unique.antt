@@ -17,6 +17,8 @@ use Rattle.record.specs.Refusals.{checkedOf}
 use Rattle.record.specs.Reading.{At}
 use Rattle.record.specs.Weights.{heavierBy}
 use Rattle.record.specs.Blocks.{countIf, earlier, blockOf, bytesIn}
+use Rattle.record.specs.Counting.{countIf, earlier}
+use Rattle.figures.specs.Figures.{rankOf, conservesOf, maxNBodyOf, activeModesOf}
 use Rattle.record.specs.declared.Checked.{Checked}
 use Rattle.record.specs.declared.Stretch.{Stretch}
 

@@ -1,24 +1,15 @@
 -- The stretch of the creation column for one annihilation word.
 use Prim.Native.Nat.{ℕ, _+_, _*_, _-_}
 use mathlib.Core.Bool.{Bool, cond}
-use mathlib.Core.List.{List, [], _∷_}
+use mathlib.Core.List.{List}
 use lib.Dec.{eqb, ltb}
 use lib.ListN.{take, drop}
 use Rattle.modes.specs.Refusals.{unless}
 use Rattle.modes.specs.declared.Term.{Term}
-use Rattle.record.specs.Terms.{before}
 use Rattle.record.specs.Layout.{countOf, termsOf}
 use Rattle.record.specs.Refusals.{refusalOf}
+use Rattle.record.specs.Counting.{countIf}
 use Rattle.record.specs.declared.Stretch.{Stretch}
-
--- how many of the terms p holds of
-unfoldable pub countIf : (Term → Bool) → List Term → ℕ
-countIf p [] = 0
-countIf p (t ∷ ts) = cond (p t) 1 0 + countIf p ts
-
--- u stands before t
-abbrev pub earlier : Term → Term → Bool
-earlier t u = before u t
 
 -- the term has an annihilation word below a
 abbrev pub annBelow : ℕ → Term → Bool

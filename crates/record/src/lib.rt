@@ -23,7 +23,8 @@ ghost use Rattle.rows.specs.Sorted.{Arranged};
 ghost use Rattle.modes.specs.Words.{bit};
 ghost use Rattle.modes.specs.Counts.{count};
 ghost use Rattle.record.specs.Weights.{heavierBy};
-ghost use Rattle.record.specs.Blocks.{countIf, earlier, annBelow, blockOf, bytesIn};
+ghost use Rattle.record.specs.Counting.{countIf, earlier};
+ghost use Rattle.record.specs.Blocks.{annBelow, blockOf, bytesIn};
 
 // The largest weight that a record may have.
 pub const HEAVIEST: u64 = 1_152_921_504_606_846_976;

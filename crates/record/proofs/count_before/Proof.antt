@@ -4,9 +4,9 @@ use mathlib.Core.Path.{sym, _∙_}
 use Prim.Native.Nat.{_-_, _≤_}
 use native.Mathlib.Omega.{arith}
 use Rattle.record.specs.Layout.{termsIn}
-use Rattle.record.specs.Blocks.{earlier}
+use Rattle.record.specs.Counting.{earlier}
 use Rattle.record.proofs.Reading.{none-left}
-use Rattle.record.proofs.Blocks.{earlier-downward, Halving, halving-starts, halving-rises, halving-falls, halving-ends}
+use Rattle.record.proofs.Halving.{earlier-downward, Halving, halving-starts, halving-rises, halving-falls, halving-ends}
 use Rattle.record.proofs.count_before.Statement.{statement}
 use Rattle.record.proofs.count_before.Tie as tie
 

@@ -1,25 +1,18 @@
+-- `record::sort_terms` meets its contract: a sort over the columns.
 use Rattle.record.proofs.Columns.{columns-apart, sorted-terms}
 use borrow.Author.Needs.{needs}
 use Rattle.record.proofs.sort_terms.Statement.{statement}
 use Rattle.record.proofs.sort_terms.Tie as tie
-use Rattle.record.proofs.sort_terms.Reads as reads
-use Rattle.record.proofs.sort_terms.Lts as lts
-use Rattle.record.proofs.column_places.Reads as column-places-reads
-use Rattle.rows.proofs.sort.Reads as sort-reads
 
--- src/lib.rt:315:21
 column-places-requires : tie.Need-column-places-requires
 column-places-requires c κs = search needs
 
--- src/lib.rt:315:5
 sort-requires : tie.Need-sort-requires
 sort-requires c κs = rw (c .column-places .ensures) (columns-apart _ _ (c .before .before .before .pre .0))
 
--- src/lib.rt:311:1
 same-length : tie.Need-same-length
 same-length c = search needs
 
--- src/lib.rt:311:1
 returns : tie.Need-returns
 returns c = sorted-terms _ _ _ (rw (c .before .before .before .column-places .ensures) at (c .before .before .sort .ensures))
 
