@@ -9,15 +9,15 @@ use lib.ListN.{length, length-map}
 use Rattle.modes.specs.declared.Term.{Term}
 use Rattle.modes.specs.Counts.{parity, pairs}
 use Rattle.modes.specs.Every.{Every, none, more}
-use Rattle.modes.proofs.Every.{every-implies, every-all, sum-same, every-map}
+use Rattle.modes.proofs.Every.{sum-same, every-map}
 use lib.Dec.{eqb}
 use borrow.Author.Tests.{eqb-true}
 use Rattle.lent.proofs.RowLaws.{term-of}
 use Rattle.products.specs.Operators.{signed}
 use Rattle.products.proofs.Signs.{signed-zero, abs-signed}
 use Rattle.modes.specs.Sums.{sumOf}
-use Rattle.modes.proofs.Sums.{exchange, sum-map}
-use Rattle.record.specs.Terms.{before, Ascending, empty, above, weight}
+use Rattle.modes.proofs.Sums.{sum-map}
+use Rattle.record.specs.Terms.{weight}
 use Rattle.record.specs.Coefficients.{coeffIn, coeffOf}
 use Rattle.record.specs.Canonical.{Inside, Nonzero, Canonical}
 use Rattle.modes.specs.Terms.{creations, annihilations}

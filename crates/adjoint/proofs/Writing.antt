@@ -6,10 +6,9 @@ use native.Mathlib.Omega.{arith}
 use lib.ListN.{length, take, drop, set}
 use lib.Seq.{drop-nil, take-all}
 use Rattle.modes.specs.declared.Term.{Term}
-use Rattle.lent.specs.Bytes.{put}
 use Rattle.modes.specs.Every.{Every, none, more}
-use Rattle.record.specs.Layout.{columns, putTerm, termsIn}
-use Rattle.record.proofs.Columns.{spread, spread-none, spread-more, spread-all, length-spread, terms-more, terms-all}
+use Rattle.record.specs.Layout.{termsIn}
+use Rattle.record.proofs.Columns.{terms-more, terms-all}
 use Rattle.adjoint.specs.Adjoint.{adjointTerm}
 
 -- ---- the term at an index

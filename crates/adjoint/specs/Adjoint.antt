@@ -1,16 +1,13 @@
 -- The adjoint of a term, of a list of terms, and of a record.
-use mathlib.Core.Bool.{Bool, cond}
-use mathlib.Core.List.{List, map, [], _∷_}
+use mathlib.Core.Bool.{Bool}
+use mathlib.Core.List.{List, map}
 use Prim.Native.Nat.{ℕ, _+_, _^_, _<_}
-use lib.Dec.{eqb, leb}
 use lib.IntN.{natAbs}
 use Rattle.modes.specs.declared.Term.{Term}
 use Rattle.modes.specs.Counts.{parity, pairs}
-use Rattle.modes.specs.Answers.{outputTooShort}
-use Rattle.lent.specs.Outputs.{Output, refusedOutput, filledOutput}
+use Rattle.lent.specs.Outputs.{Output}
 use Rattle.products.specs.Operators.{signed}
-use Rattle.record.specs.Layout.{encode, modesOf, countOf, termsOf, recordLength}
-use Rattle.record.specs.Terms.{before}
+use Rattle.record.specs.Layout.{encode, modesOf, countOf, termsOf}
 use Rattle.record.specs.Refusals.{refusalOf}
 use Rattle.modes.specs.Refusals.{orElse}
 use Rattle.modes.specs.Terms.{creations, annihilations}

@@ -3,7 +3,6 @@ use mathlib.Core.Path.{_≡_, sym, ap, ap₂, _∙_}
 use mathlib.Core.List.{List}
 use Prim.Native.Nat.{ℕ, _+_, _*_, _^_, _≤_, _<_}
 use native.Mathlib.Omega.{arith}
-use lib.ListN.{length}
 use borrow.Author.Tests.{ne-eqb, le-leb, lt-leb}
 use Rattle.modes.specs.declared.Refusal.{Refusal}
 use Rattle.modes.specs.Answers.{refusal, none}
@@ -12,7 +11,7 @@ use Rattle.modes.proofs.Refusals.{or-first, or-second}
 use Rattle.lincomb.specs.Results.{pairRefusal, openedOf}
 use Rattle.lincomb.specs.declared.Opened.{Opened}
 use Rattle.lincomb.proofs.Results.{Opens, opens, shuts, sound}
-use Rattle.pairs.specs.Products.{branchesOfAll, allBranches}
+use Rattle.pairs.specs.Products.{branchesOfAll}
 use Rattle.record.specs.Reading.{Holds}
 use Rattle.record.proofs.Accepted.{sound}
 use Rattle.multiply.specs.Answers.{workRefusal}

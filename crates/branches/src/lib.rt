@@ -2,11 +2,10 @@
 use modes::Refusal;
 use modes::Term;
 ghost use mathlib.Core.Path.{_≡_};
-ghost use Prim.Native.Nat.{_+_, _*_, _^_, _≤_};
+ghost use Prim.Native.Nat.{_+_, _^_, _≤_};
 ghost use lib.Count.{ones};
-ghost use lib.ListN.{length};
 ghost use Rattle.record.specs.Layout.{termsIn};
-ghost use Rattle.pairs.specs.Products.{branchesOf, branchesWith, branchesOfAll, allBranches};
+ghost use Rattle.pairs.specs.Products.{branchesOf, branchesWith, branchesOfAll};
 ghost use Rattle.record.specs.Reading.{Holds};
 ghost use Rattle.branches.specs.Ceiling.{most, upTo};
 ghost use Rattle.branches.specs.Branches.{uncounted, branchesTold};

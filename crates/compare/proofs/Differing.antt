@@ -7,12 +7,10 @@ use Prim.Native.Nat.{ℕ}
 use lib.IntN.{ℤ, pos, natAbs, _+ℤ_, _-ℤ_}
 use borrow.Author.Tests.{eq-eqb, ne-eqb}
 use Rattle.modes.specs.declared.Term.{Term}
-use Rattle.modes.proofs.Bools.{and-l, and-r}
 use Rattle.modes.specs.Every.{Every, none, more}
 use Rattle.modes.proofs.Every.{every-implies, every-both}
-use Rattle.record.specs.Terms.{Above, Ascending, empty, above}
+use Rattle.record.specs.Terms.{Ascending}
 use Rattle.record.specs.Coefficients.{coeffOf}
-use Rattle.record.proofs.Coefficients.{earlier-words, own-coeff}
 use Rattle.record.proofs.Accepted.{abs-zero}
 use Rattle.normal.specs.Normal.{dropZeros}
 use Rattle.normal.proofs.Words.{Some, Held, no-difference, same-difference, same-or-not, held, own-coeffs}

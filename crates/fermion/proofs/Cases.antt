@@ -20,7 +20,7 @@ use Rattle.record.specs.Refusals.{termRefusal, termsRefusal, refusalOf}
 use Rattle.normal.specs.Normal.{join, insert, collect, dropZeros}
 use Rattle.lincomb.specs.Results.{pairRefusal, resultRefusal}
 use Rattle.record.specs.Outputs.{recordOutput}
-use Rattle.pairs.specs.Products.{pairRows, allBranches, rowsWith, allRows, branchesWith}
+use Rattle.pairs.specs.Products.{pairRows, allBranches}
 use Rattle.multiply.specs.Answers.{weightRefusal, workRefusal}
 use Rattle.fermion.specs.Cases.{cases, AllHold}
 

@@ -6,7 +6,6 @@ use Prim.Native.Nat.{ℕ, max}
 use native.Mathlib.Omega.{arith}
 use native.Mathlib.Nat.{max-zero, zero-max}
 use lib.Bits.{bitOr, or-zero-l, or-zero-r}
-use borrow.Author.Tests.{ne-eqb}
 use Rattle.modes.proofs.Refusals.{unless-not, unless-so}
 use Rattle.record.specs.Operands.{readAs}
 use Rattle.modes.specs.Words.{bit}
@@ -14,7 +13,7 @@ use Rattle.modes.specs.declared.Term.{Term}
 use Rattle.modes.specs.Answers.{none}
 use Rattle.modes.proofs.Digits.{bit-or, ext}
 use Rattle.figures.specs.Figures.{conserves, conserving, rankOf, largestRank, allModes, figuresOf, figuresIn, noFigures}
-use Rattle.record.specs.Layout.{termsIn, termsOf}
+use Rattle.record.specs.Layout.{termsIn}
 use Rattle.record.specs.Refusals.{refusalOf, checkedOf}
 use Rattle.figures.specs.declared.Figures.{Figures}
 use Rattle.record.specs.declared.Checked.{Checked}

@@ -1,12 +1,10 @@
 -- What the terms of a record have in common: particle conservation, the largest rank, the active modes.
 use Prim.Native.Nat.{ℕ, _+_, _/_, max}
-use mathlib.Core.Bool.{Bool, true, false, cond, _&&_}
+use mathlib.Core.Bool.{Bool, true, false, _&&_}
 use mathlib.Core.List.{List, [], _∷_}
 use lib.Bits.{bitOr}
 use lib.Dec.{eqb}
 use Rattle.modes.specs.Terms.{creations, annihilations}
-use Rattle.modes.specs.Words.{bit}
-use Rattle.modes.specs.Counts.{count}
 use Rattle.modes.specs.declared.Term.{Term}
 use Rattle.modes.specs.declared.Refusal.{Refusal}
 use Rattle.modes.specs.Answers.{none}

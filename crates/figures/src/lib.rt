@@ -3,7 +3,7 @@ use modes::Refusal;
 use modes::Term;
 use record::Tested;
 ghost use mathlib.Core.Path.{_≡_};
-ghost use Prim.Native.Nat.{_+_, _*_, _≤_, max};
+ghost use Prim.Native.Nat.{_+_, _≤_, max};
 ghost use Rattle.record.specs.Layout.{termsIn};
 ghost use Rattle.record.specs.Reading.{Holds};
 ghost use Rattle.record.specs.Operands.{readAs};

@@ -1,6 +1,6 @@
 -- The ways in which an element is answered: refused by the lists, a term, the bra or the ket, or by the sums; and one part out of two that are the same.
 use mathlib.Core.Path.{_≡_, refl, sym, _∙_}
-use mathlib.Core.Bool.{Bool, true, false, cond, and-self-left}
+use mathlib.Core.Bool.{Bool, true, false, and-self-left}
 use mathlib.Core.List.{List, [], _∷_}
 use Prim.Native.Nat.{ℕ, suc}
 use native.Mathlib.Omega.{arith}
@@ -8,7 +8,6 @@ use lib.Dec.{eqb}
 use lib.ListN.{length, getD, take}
 use lib.Ieee.{Float, nan}
 use lib.Ieee.Scale.{finite}
-use borrow.Author.Tests.{ne-eqb}
 use Rattle.modes.specs.Answers.{refusal, none}
 use Rattle.modes.specs.declared.Refusal.{Refusal}
 use Rattle.modes.proofs.Refusals.{or-first, or-second, first-refuses, by-number, unless-not, unless-so}

@@ -7,14 +7,13 @@ use Prim.Native.Nat.{ℕ, zero, suc, _+_, _-_, _≤_, _<_}
 use native.Mathlib.Nat.{add-zero, add-suc}
 use native.Mathlib.Numerals.{add-one}
 use native.Mathlib.Omega.{arith}
-use borrow.Author.Tests.{eq-eqb, ne-eqb, eqb-true}
-use lib.Dec.{T, eqb}
+use borrow.Author.Tests.{eq-eqb, ne-eqb}
+use lib.Dec.{T}
 use lib.ListN.{length, getD}
 use lib.Ieee.{Float, nan, inf, fin, neg, binary64, fits}
 use lib.Ieee.Scale.{finite}
 use lib.Ieee.Fits.{neg-fits}
 use Rattle.modes.specs.Answers.{refusal, none}
-use Rattle.modes.specs.declared.Refusal.{Refusal}
 use Rattle.modes.proofs.Bools.{and-l, and-r}
 use Rattle.modes.proofs.Digits.{lt-or-ge}
 use Rattle.products.specs.PhaseRule.{Outcome, gone, went}
@@ -24,7 +23,7 @@ use Rattle.modes.specs.Spaces.{inside}
 use Rattle.modes.proofs.Refusals.{or-second, neither, either-way}
 use Rattle.modes.proofs.FirstRefusals.{first-starts, first-none, first-goes}
 use Rattle.float_elem.specs.Sums.{plusZero, signedFloat, addedFloat, sumTo}
-use Rattle.float_elem.specs.Answers.{Told, valued, noValues}
+use Rattle.float_elem.specs.Answers.{valued, noValues}
 use Rattle.float_elem.specs.Elements.{allFinite, floatTermRefusal, termAt, inputRefusal, sumsTo, sumAt, sumRefusal, floatElement}
 use Rattle.float_elem.specs.Single.{exactly, Doubles, OnlyJoins}
 use Rattle.float_elem.proofs.Exact.{one-term}

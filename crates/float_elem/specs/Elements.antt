@@ -1,5 +1,5 @@
 -- The element of a list of terms with float coefficients at (bra, ket). A coefficient has one part, a real, or two, re and im; `parts` holds a list of floats for each.
-use mathlib.Core.Bool.{Bool, true, cond, _&&_}
+use mathlib.Core.Bool.{Bool, true, _&&_}
 use mathlib.Core.List.{List, [], _∷_, map}
 use Prim.Native.Nat.{ℕ, suc}
 use lib.Dec.{eqb, leb}
@@ -7,7 +7,7 @@ use lib.ListN.{length, getD}
 use lib.Ieee.{Float, nan}
 use lib.Ieee.Scale.{finite}
 use Rattle.modes.specs.Spaces.{spaceOf, isMade, inside, wordsRefusal}
-use Rattle.modes.specs.Answers.{refusal, none}
+use Rattle.modes.specs.Answers.{refusal}
 use Rattle.modes.specs.declared.Refusal.{Refusal}
 use Rattle.modes.specs.Refusals.{need, orElse, firstRefusal, unless}
 use Rattle.float_elem.specs.Sums.{sumTo}

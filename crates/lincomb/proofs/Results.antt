@@ -2,8 +2,8 @@
 use mathlib.Core.Path.{_≡_, refl, sym, ap, _∙_}
 use mathlib.Core.Bool.{Bool, true, false, cond}
 use mathlib.Core.List.{List}
-use mathlib.Core.Logic.{_⊎_, ⊎-elim}
-use Prim.Native.Nat.{ℕ, _+_, _*_, _^_, _≤_, _<_, _-_}
+use mathlib.Core.Logic.{⊎-elim}
+use Prim.Native.Nat.{ℕ, _^_, _≤_, _<_}
 use native.Mathlib.Omega.{arith}
 use lib.Dec.{eqb, leb}
 use lib.ListN.{length}
@@ -12,26 +12,19 @@ use Rattle.modes.specs.declared.Term.{Term}
 use Rattle.modes.specs.declared.Refusal.{Refusal}
 use Rattle.modes.specs.Answers.{refusal, none}
 use Rattle.modes.proofs.Digits.{lt-or-ge}
-use Rattle.lent.specs.Bytes.{put, zeros}
 use Rattle.modes.specs.Every.{Every}
-use Rattle.lent.specs.Outputs.{Output, refusedOutput, filledOutput, Gives}
-use Rattle.record.specs.Terms.{Ascending, weight}
-use Rattle.record.specs.Layout.{header, columns, encode, modesOf, countOf, termsOf, recordLength}
+use Rattle.record.specs.Terms.{weight}
+use Rattle.record.specs.Layout.{modesOf, countOf, termsOf, recordLength}
 use Rattle.modes.specs.Refusals.{orElse}
 use Rattle.record.specs.Refusals.{refusalOf, checkedOf}
-use Rattle.modes.specs.declared.Written.{Written}
-use Rattle.record.specs.Canonical.{Inside, Nonzero, Canonical}
-use Rattle.record.specs.Outputs.{recordOutput}
+use Rattle.record.specs.Canonical.{Inside, Canonical}
 use Rattle.record.specs.declared.Checked.{Checked}
 use Rattle.modes.proofs.Refusals.{or-first, or-second, neither}
-use Rattle.record.proofs.Accepted.{accepted-laid, accepted-canonical, accepted-none, Accepted, accepted, refused}
-use Rattle.record.proofs.Columns.{record-written}
-use Rattle.record.proofs.Inverse.{length-encode, decode-modes, decode-terms, encode-accepted}
-use Rattle.lincomb.specs.Results.{pairRefusal, resultRefusal, resultOf, shut, standing, openedOf}
-use Rattle.record.proofs.Outputs.{bound-kept, output-earlier, output-late, output-filled, output-fine, output-accepted, output-modes, output-terms}
+use Rattle.record.proofs.Accepted.{accepted-none, Accepted, accepted, refused}
+use Rattle.lincomb.specs.Results.{pairRefusal, resultRefusal, shut, standing, openedOf}
+use Rattle.record.proofs.Outputs.{bound-kept}
 use Rattle.normal.specs.Normal.{normal}
 use Rattle.normal.proofs.Normal.{inside-joins, every-normal, normal-ascending, normal-nonzero}
-use Rattle.lincomb.specs.Merging.{Sound}
 use Rattle.lincomb.specs.Tallies.{Tallied}
 use Rattle.lincomb.specs.declared.Opened.{Opened}
 use Rattle.lincomb.specs.declared.Tally.{Tally}

@@ -2,7 +2,7 @@
 use mathlib.Core.Path.{_≡_, sym, ap, ap₂, _∙_}
 use mathlib.Core.Bool.{Bool, true, false}
 use mathlib.Core.List.{List, _++_, map}
-use Prim.Native.Nat.{ℕ, _+_, _-_}
+use Prim.Native.Nat.{ℕ}
 use lib.IntN.{ℤ, negℤ, _+ℤ_}
 use lib.ListN.{length, take}
 use Rattle.modes.specs.declared.Term.{Term}
@@ -21,7 +21,7 @@ use Rattle.record.specs.Refusals.{refusalOf}
 use Rattle.record.specs.Canonical.{Inside, Canonical}
 use Rattle.record.proofs.Accepted.{accepted-canonical, sound}
 use Rattle.record.proofs.Outputs.{refused-earlier, refused-late, delivers, none-refused, output-accepted, output-modes, output-terms}
-use Rattle.normal.specs.Normal.{dropZeros, join, normal}
+use Rattle.normal.specs.Normal.{dropZeros}
 use Rattle.normal.proofs.Totals.{element-normal}
 use Rattle.lincomb.specs.Results.{pairRefusal, resultRefusal, openedOf}
 use Rattle.lincomb.specs.Sums.{turn, sumTerms, combined, added, subtracted}
@@ -31,8 +31,8 @@ use Rattle.lincomb.specs.declared.Opened.{Opened}
 use Rattle.lincomb.specs.declared.Tally.{Tally}
 use Rattle.lincomb.proofs.Totals.{element-turn, element-normal}
 use Rattle.lincomb.proofs.Merging.{ascending-turn, merge-normal}
-use Rattle.lincomb.proofs.Results.{Opens, opens, shuts, sound, first-fine, second-fine, same-modes, Deliverable, deliverable, verdict-same, result-canonical, refused-earlier, refused-late, delivers, result-earlier, result-accepted, result-modes, result-terms}
-use Rattle.lincomb.proofs.Normal.{every-normal, ascending-turn, normal-ascending, normal-nonzero}
+use Rattle.lincomb.proofs.Results.{Opens, opens, shuts, sound, first-fine, second-fine, same-modes, Deliverable, deliverable, verdict-same, result-canonical, refused-earlier, refused-late, delivers}
+use Rattle.lincomb.proofs.Normal.{ascending-turn}
 
 -- ---- each way through the call
 

@@ -9,7 +9,6 @@ use Rattle.modes.specs.declared.Written.{Written}
 use Rattle.lent.specs.Outputs.{Gives, refusedOutput}
 use Rattle.lent.proofs.Outputs.{gives-one}
 use Rattle.modes.proofs.Unique.{one}
-use Rattle.normal.specs.Normal.{join}
 use Rattle.lincomb.specs.Results.{openedOf, resultRefusal}
 use Rattle.lincomb.specs.Sums.{turn, added, subtracted}
 use Rattle.lincomb.specs.Merging.{onward, Pulled}

@@ -5,7 +5,6 @@ use Prim.Native.Nat.{ℕ, _+_, _≤_, _<_, zero-le}
 use native.Mathlib.Omega.{arith}
 use lib.IntN.{natAbs}
 use lib.ListN.{length, take, set, length-append, length-take}
-use borrow.Author.Tests.{eq-eqb, ne-eqb}
 use Rattle.record.proofs.Reading.{length-terms}
 use Rattle.normal.proofs.Sizes.{drop-none, drop-keeps, drop-leaves}
 

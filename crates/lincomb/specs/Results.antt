@@ -7,9 +7,9 @@ use lib.ListN.{length}
 use Rattle.modes.specs.declared.Term.{Term}
 use Rattle.modes.specs.declared.Refusal.{Refusal}
 use Rattle.modes.specs.Answers.{none, modesDiffer, resultTooHeavy, tooManyTerms}
-use Rattle.lent.specs.Outputs.{Output, refusedOutput, filledOutput}
+use Rattle.lent.specs.Outputs.{Output}
 use Rattle.record.specs.Terms.{weight}
-use Rattle.record.specs.Layout.{encode, modesOf, countOf, termsOf, recordLength}
+use Rattle.record.specs.Layout.{modesOf, countOf, termsOf}
 use Rattle.modes.specs.Refusals.{need, orElse}
 use Rattle.record.specs.Refusals.{refusalOf}
 use Rattle.record.specs.Outputs.{roomRefusal, recordOutput}

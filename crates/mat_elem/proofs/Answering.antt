@@ -1,22 +1,20 @@
 -- The ways in which `element` answers: refused with the record or with the words, or found.
-use mathlib.Core.Path.{_≡_, refl, sym, ap, _∙_, subst}
+use mathlib.Core.Path.{_≡_, ap, _∙_}
 use mathlib.Core.List.{List}
 use Prim.Native.Nat.{ℕ}
 use lib.IntN.{ℤ}
-use borrow.Author.Tests.{eq-eqb, ne-eqb}
 use Rattle.record.specs.Operands.{readAs}
 use Rattle.modes.specs.Answers.{none}
 use Rattle.modes.specs.declared.Refusal.{Refusal}
 use Rattle.products.specs.Operators.{element}
-use Rattle.record.specs.Terms.{weight}
 use Rattle.record.specs.Layout.{termsIn, modesOf}
 use Rattle.record.specs.Refusals.{refusalOf, checkedOf}
 use Rattle.record.specs.declared.Checked.{Checked}
-use Rattle.modes.proofs.Refusals.{or-first, or-second, second-refuses, neither-refuses, first-refuses}
-use Rattle.record.proofs.Accepted.{Accepted, accepted, readable, refused, refusal-told}
+use Rattle.modes.proofs.Refusals.{second-refuses, neither-refuses, first-refuses}
+use Rattle.record.proofs.Accepted.{Accepted, accepted, refused, refusal-told}
 use Rattle.modes.specs.Spaces.{wordsRefusal}
 use Rattle.record.specs.Reading.{Sound}
-use Rattle.mat_elem.specs.Elements.{elementRefusal, refusedElement, elementOf}
+use Rattle.mat_elem.specs.Elements.{refusedElement, elementOf}
 use Rattle.mat_elem.specs.declared.Exact.{Exact}
 
 module _ (a : List ℕ) (bra ket : ℕ) (c : Checked) (e : c ≡ checkedOf 1 a) where

@@ -8,11 +8,9 @@ use native.Mathlib.Omega.{arith}
 use lib.Dec.{eqb}
 use lib.IntN.{ℤ, pos, natAbs}
 use lib.ListN.{length, getD, replicate, length-append, length-map, length-replicate}
-use borrow.Author.Tests.{eqb-true}
 use mir.Syntax.{w64}
 use mir.Val.{SFits}
 use Rattle.record.specs.Operands.{readAs}
-use Rattle.modes.specs.Answers.{none}
 use Rattle.modes.specs.Sums.{sumOf}
 use Rattle.modes.specs.declared.Term.{Term}
 use Rattle.integers.proofs.SignedNumbers.{abs-sum, abs-fits}

@@ -1,14 +1,13 @@
 -- What a projected matrix that is not refused holds: at two words of the basis what `element` answers there, and 0 elsewhere.
 use mathlib.Core.Path.{_≡_, refl, sym, ap, _∙_}
-use mathlib.Core.Bool.{Bool, true, false, cond}
+use mathlib.Core.Bool.{true}
 use mathlib.Core.List.{List, [], _∷_, _++_, map}
 use mathlib.Core.Logic.{_⊎_, inl, inr}
 use Prim.Native.Nat.{ℕ, zero, suc, _-_, _^_, _≤_, _<_}
 use native.Mathlib.Omega.{arith}
-use lib.Dec.{eqb, ltb}
+use lib.Dec.{ltb}
 use lib.IntN.{pos}
 use lib.ListN.{length, getD, replicate}
-use borrow.Author.Tests.{eq-eqb, eqb-true}
 use Rattle.record.specs.Operands.{readAs}
 use Rattle.modes.specs.Answers.{none}
 use Rattle.modes.specs.declared.Term.{Term}
@@ -19,7 +18,7 @@ use Rattle.modes.specs.Refusals.{orElse, unless}
 use Rattle.record.specs.Refusals.{refusalOf}
 use Rattle.modes.proofs.Refusals.{neither, not-refused}
 use Rattle.record.proofs.Accepted.{accepted-none}
-use Rattle.mat_elem.specs.Elements.{elementRefusal, elementOf}
+use Rattle.mat_elem.specs.Elements.{elementOf}
 use Rattle.mat_elem.specs.Matrix.{outsideAt, basisRefusal, rowOf, zeroRow, matrixOf, entryAt, refusedMatrix, projectedRefusal, projectedOf}
 use Rattle.mat_elem.specs.declared.Row.{Row}
 use Rattle.mat_elem.specs.declared.Projected.{Projected}

@@ -1,25 +1,23 @@
 -- The ways in which `mat_ortho_projected` answers: refused with the record or with the basis, or filled.
-use mathlib.Core.Path.{_≡_, refl, sym, ap, _∙_, subst}
-use mathlib.Core.Bool.{Bool, true, false, cond}
+use mathlib.Core.Path.{_≡_, refl, sym, ap, _∙_}
 use mathlib.Core.List.{List}
 use Prim.Native.Nat.{ℕ, _≤_, _<_}
 use native.Mathlib.Omega.{arith}
 use lib.Dec.{leb}
 use lib.ListN.{length}
-use borrow.Author.Tests.{eq-eqb, ne-eqb, le-leb, lt-leb, leb-true}
+use borrow.Author.Tests.{le-leb, lt-leb, leb-true}
 use Rattle.record.specs.Operands.{readAs}
 use Rattle.modes.specs.Answers.{refusal, none}
 use Rattle.modes.specs.declared.Refusal.{Refusal}
 use Rattle.modes.specs.declared.Term.{Term}
-use Rattle.record.specs.Terms.{weight}
 use Rattle.record.specs.Layout.{termsIn, termsOf, modesOf}
 use Rattle.modes.specs.Refusals.{orElse, firstRefusal}
 use Rattle.record.specs.Refusals.{refusalOf, checkedOf}
 use Rattle.record.specs.declared.Checked.{Checked}
 use Rattle.modes.proofs.Refusals.{or-first, or-second, neither, second-refuses, neither-refuses, first-refuses, needed}
-use Rattle.record.proofs.Accepted.{Accepted, accepted, readable, refused, refusal-told}
+use Rattle.record.proofs.Accepted.{Accepted, accepted, refused, refusal-told}
 use Rattle.record.specs.Reading.{Sound}
-use Rattle.mat_elem.specs.Matrix.{outsideAt, repeatAt, basisRefusal, matrixOf, refusedMatrix, projectedRefusal, projectedOf}
+use Rattle.mat_elem.specs.Matrix.{outsideAt, repeatAt, basisRefusal, matrixOf, refusedMatrix, projectedOf}
 use Rattle.mat_elem.specs.declared.Projected.{Projected}
 
 -- ---- the basis

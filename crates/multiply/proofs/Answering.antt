@@ -2,7 +2,7 @@
 use mathlib.Core.Path.{_≡_, refl, sym, ap, ap₂, _∙_}
 use mathlib.Core.Bool.{Bool, true, false, cond}
 use mathlib.Core.List.{List}
-use Prim.Native.Nat.{ℕ, _+_, _*_, _/_, _^_, _≤_, _<_}
+use Prim.Native.Nat.{ℕ, _*_, _/_, _^_, _≤_, _<_}
 use native.Mathlib.Nat.{mul-div-cancel-left, lt-of-le-of-lt}
 use native.Mathlib.Omega.{arith}
 use lib.Dec.{leb, lit<}
@@ -26,7 +26,6 @@ use Rattle.lincomb.specs.declared.Opened.{Opened}
 use Rattle.lincomb.proofs.Results.{Opens, opens, shuts, sound, refused-earlier}
 use Rattle.record.specs.Reading.{Holds}
 use Rattle.record.proofs.Accepted.{sound}
-use Rattle.lincomb.proofs.Normal.{normal-is}
 use Rattle.joins.specs.Collected.{Collected}
 use Rattle.joins.specs.KeyWeights.{Light}
 use Rattle.pairs.specs.Products.{allRows, allBranches}

@@ -7,7 +7,7 @@ use lib.IntN.{ℤ, pos, _+ℤ_, _*ℤ_, *ℤ-comm}
 use Rattle.modes.specs.Sums.{sumOf}
 use Rattle.modes.specs.declared.Term.{Term}
 use Rattle.modes.proofs.Sums.{sum-append, Respects, sum-through, whole-numbers, by-both-orders, sum-respects}
-use Rattle.modes.specs.Every.{Every, none, more}
+use Rattle.modes.specs.Every.{Every, none}
 use Rattle.modes.proofs.Every.{every-implies, sum-same}
 use Rattle.products.specs.PhaseRule.{went, term}
 use Rattle.products.specs.Operators.{signed, adds, part, element}

@@ -10,7 +10,7 @@ use lib.Pow.{pow-mono}
 use Rattle.modes.specs.declared.Term.{Term}
 use Rattle.modes.specs.declared.Written.{Written}
 use Rattle.modes.specs.Answers.{none}
-use Rattle.modes.specs.Every.{Every, none as nothing, more}
+use Rattle.modes.specs.Every.{Every, none as nothing}
 use Rattle.modes.proofs.Every.{every-implies, every-append, every-list}
 use Rattle.lent.specs.Outputs.{Gives}
 use Rattle.products.specs.Operators.{signed, element}
@@ -25,10 +25,9 @@ use Rattle.modes.proofs.Refusals.{neither}
 use Rattle.record.proofs.Accepted.{accepted-canonical}
 use Rattle.normal.specs.Normal.{normal}
 use Rattle.normal.proofs.Totals.{element-normal}
-use Rattle.normal.proofs.Normal.{inside-joins, every-normal, normal-ascending, normal-nonzero}
 use Rattle.lincomb.specs.Results.{pairRefusal, resultRefusal}
-use Rattle.lincomb.proofs.Results.{first-fine, second-fine, same-modes, result-earlier, result-accepted, result-modes, result-terms, result-canonical}
-use Rattle.pairs.specs.Products.{pairRows, allRows, allBranches, inSuccession, rowsWith, inTurn}
+use Rattle.lincomb.proofs.Results.{first-fine, second-fine, same-modes, result-canonical}
+use Rattle.pairs.specs.Products.{pairRows, allRows, allBranches, inSuccession}
 use Rattle.record.proofs.Outputs.{none-refused, output-accepted, output-modes, output-terms}
 use Rattle.multiply.specs.Answers.{weightRefusal, workRefusal, earlyRefusal, productAnswer, productOf, commutatorOf, anticommutatorOf}
 use Rattle.multiply.proofs.Elements.{other, all-elements}

@@ -1,12 +1,12 @@
 -- What the product, the commutator and the anticommutator of two records answer, and the whole output at their end.
 use mathlib.Core.Path.{_≡_}
-use mathlib.Core.Bool.{Bool, true, false, cond}
+use mathlib.Core.Bool.{Bool, true, false}
 use mathlib.Core.List.{List}
 use Prim.Native.Nat.{ℕ, _*_, _^_}
 use lib.Dec.{leb}
 use Rattle.modes.specs.declared.Refusal.{Refusal}
 use Rattle.modes.specs.declared.Written.{Written}
-use Rattle.modes.specs.Answers.{none, rowsDoNotFit, productTooHeavy}
+use Rattle.modes.specs.Answers.{rowsDoNotFit, productTooHeavy}
 use Rattle.lent.specs.Bytes.{zeros}
 use Rattle.lent.specs.Outputs.{Output, Gives}
 use Rattle.record.specs.Terms.{weight}

@@ -8,7 +8,6 @@ use lib.IntN.{natAbs}
 use borrow.Author.Tests.{eqb-false}
 use Rattle.modes.specs.declared.Term.{Term}
 use Rattle.modes.specs.Every.{Every, none, more}
-use Rattle.modes.proofs.Every.{every-map}
 use Rattle.products.specs.Operators.{element}
 use Rattle.record.specs.Terms.{before, Above, Ascending, empty, above}
 use Rattle.record.specs.Coefficients.{coeffOf}

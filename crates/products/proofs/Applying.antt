@@ -15,7 +15,7 @@ use Rattle.modes.proofs.Digits.{lt-or-ge, bit-xor, bits-xor, bit-above, ext}
 use Rattle.modes.proofs.Counts.{count-sum, count-mono, exchanges-odd, exchanges-self, parity-add}
 use Rattle.products.specs.PhaseRule.{gone, went}
 use Rattle.products.specs.Apply.{applyResultOf, applied, Ready}
-use Rattle.products.specs.declared.ApplyResult.the-variants.{Applied, Zero}
+use Rattle.products.specs.declared.ApplyResult.the-variants.{Applied}
 use Rattle.products.specs.Product.{signOf}
 use Rattle.products.proofs.ClosedForm.{fit, acts, acts-is, term-is}
 

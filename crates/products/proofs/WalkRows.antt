@@ -11,7 +11,7 @@ use lib.Bits.{bitAnd, bitOr, bitXor, and-le-l}
 use lib.IntN.{ℤ}
 use borrow.Author.Tests.{ne-eqb, eqb-true}
 use Rattle.modes.specs.Bools.{_⊕_}
-use Rattle.modes.specs.Words.{Modes, bit, _△_}
+use Rattle.modes.specs.Words.{Modes, bit}
 use Rattle.modes.specs.Counts.{count, odd, oddExchanges}
 use Rattle.modes.specs.declared.Term.{Term}
 use Rattle.modes.proofs.Bools.{⊕-false, false-⊕, parity-sum}

@@ -1,13 +1,12 @@
 -- What is accepted is canonical, and what is canonical is not refused.
 use mathlib.Core.Path.{_≡_, refl, sym, ap, _∙_}
-use mathlib.Core.Bool.{Bool, true, false, cond, _&&_, not}
+use mathlib.Core.Bool.{Bool, true, _&&_, not}
 use mathlib.Core.List.{List, [], _∷_}
-use Prim.Native.Nat.{ℕ, suc, _+_, _*_, _^_, _≤_}
+use Prim.Native.Nat.{ℕ, suc, _^_, _≤_}
 use native.Mathlib.Omega.{arith}
 use lib.Dec.{eqb, ltb, leb}
 use lib.IntN.{ℤ, pos, negsuc, natAbs}
-use lib.ListN.{length}
-use borrow.Author.Tests.{ne-eqb, lt-ltb, eqb-true, eqb-false, ltb-true, leb-true, le-leb, not-true}
+use borrow.Author.Tests.{ne-eqb, lt-ltb, eqb-false, ltb-true, leb-true, le-leb, not-true}
 use Rattle.modes.proofs.Bools.{and-l, and-r}
 use Rattle.modes.specs.declared.Term.{Term}
 use Rattle.modes.specs.declared.Refusal.{Refusal}

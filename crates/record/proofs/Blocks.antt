@@ -13,9 +13,8 @@ use borrow.Author.Tests.{eq-eqb, ne-eqb, lt-ltb, le-ltb, ltb-true, eqb-true}
 use Rattle.modes.proofs.Refusals.{unless-so, unless-not, either-way}
 use Rattle.modes.specs.declared.Term.{Term}
 use Rattle.modes.proofs.Digits.{lt-or-ge}
-use Rattle.lent.specs.Bytes.{bytes, wordAt}
+use Rattle.lent.specs.Bytes.{wordAt}
 use Rattle.modes.specs.Every.{Every, none, more}
-use Rattle.lent.proofs.Numbers.{length-bytes}
 use Rattle.lent.proofs.NumbersAt.{num-at-below}
 use Rattle.record.specs.Numbers.{numbers}
 use Rattle.record.specs.Terms.{before, Above, Ascending, empty, above}

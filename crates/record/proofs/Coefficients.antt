@@ -5,7 +5,7 @@ use mathlib.Core.List.{List, [], _∷_}
 use Prim.Native.Nat.{ℕ}
 use native.Mathlib.Omega.{arith}
 use lib.Dec.{eqb}
-use lib.IntN.{ℤ, pos, _+ℤ_, +ℤ-idr}
+use lib.IntN.{pos, _+ℤ_, +ℤ-idr}
 use borrow.Author.Tests.{eq-eqb, ne-eqb}
 use Rattle.modes.specs.Sums.{sumOf}
 use Rattle.modes.proofs.Sums.{cancel, sum-cons}

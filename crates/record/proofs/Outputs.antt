@@ -1,26 +1,24 @@
 -- Calls that write a record to a lent output: each way out, and that what stands there where none refuses is accepted and holds the terms.
 use mathlib.Core.Path.{_≡_, refl, sym, ap, _∙_, subst}
-use mathlib.Core.Bool.{Bool, true, false, cond}
 use mathlib.Core.List.{List, _++_}
-use Prim.Native.Nat.{ℕ, _+_, _*_, _-_, _≤_}
-use lib.Dec.{eqb, leb}
+use Prim.Native.Nat.{ℕ, _-_, _≤_}
+use lib.Dec.{leb}
 use lib.ListN.{length, take}
 use lib.Seq.{take-at}
-use borrow.Author.Tests.{eq-eqb, ne-eqb, eqb-true, eqb-false, leb-true}
+use borrow.Author.Tests.{leb-true}
 use Rattle.modes.specs.declared.Term.{Term}
 use Rattle.modes.specs.declared.Refusal.{Refusal}
 use Rattle.modes.specs.declared.Written.{Written}
-use Rattle.modes.specs.Answers.{refusal, none, wrote}
-use Rattle.lent.specs.Bytes.{put, zeros}
+use Rattle.modes.specs.Answers.{refusal, none}
+use Rattle.lent.specs.Bytes.{zeros}
 use Rattle.lent.specs.Outputs.{Output, refusedOutput, filledOutput, Gives}
-use Rattle.record.specs.Layout.{header, columns, encode, modesOf, termsOf}
-use Rattle.modes.specs.Refusals.{orElse}
+use Rattle.record.specs.Layout.{encode, modesOf, termsOf}
+use Rattle.modes.specs.Refusals.{orElse, need}
 use Rattle.record.specs.Refusals.{refusalOf}
 use Rattle.record.specs.Canonical.{Canonical}
 use Rattle.record.specs.Outputs.{recordOutput}
-use Rattle.modes.proofs.Refusals.{or-first, or-second, neither}
-use Rattle.record.proofs.Columns.{record-written}
-use Rattle.record.proofs.Inverse.{length-encode, decode-modes, decode-terms, encode-accepted}
+use Rattle.modes.proofs.Refusals.{neither, first-refuses, second-refuses, neither-refuses, not-refused, needed}
+use Rattle.record.proofs.Inverse.{decode-modes, decode-terms, encode-accepted}
 
 -- a bound whose refusal is not given is kept
 pub bound-kept : (x y k : ℕ) → (need (leb x y) (refusal k 0 0)) .number ≡ 0 → (k ≡ 0 → ⊥) → x ≤ y
@@ -41,16 +39,6 @@ module _ (room branches : ℕ) (earlier later : Refusal) (m : ℕ) (ts : List Te
 
 pub gives-as : {o q : Output} {r : Written} {x : List ℕ} → o ≡ q → Gives o r x → Gives q r x
 gives-as {o} {q} {r} {x} e g = subst (λ (y : Output). Gives y r x) e g
-
--- what the stores of a header, of columns and of zeros past them give
-pub record-given : (out one two three : List ℕ) (branches m n : ℕ) (ts : List Term) → n ≡ length ts → 32 + 24 * n ≤ length out
-    → one ≡ put out 0 (header m n) → two ≡ put one 32 (columns ts) → three ≡ take (32 + 24 * n) two ++ zeros (length two - (32 + 24 * n))
-    → Gives (filledOutput (length out) branches (encode m ts)) (wrote (32 + 24 * n) branches) three
-record-given out one two three branches m n ts count room e1 e2 e3 =
-    record {
-      answer = ap (λ (k : ℕ). wrote k branches) (ap (λ (k : ℕ). 32 + 24 * k) count ∙ sym (length-encode m ts));
-      bytes = record-written out one two three m n ts count room e1 e2 e3;
-    }
 
 -- ---- a call that is not refused
 

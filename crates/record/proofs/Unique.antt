@@ -5,8 +5,6 @@ use mathlib.Core.List.{List, _∷_}
 use Prim.Native.Nat.{ℕ, _+_, _^_, _≤_}
 use lib.IntN.{natAbs}
 use lib.ListN.{drop, length, set}
-use Rattle.modes.specs.Words.{bit}
-use Rattle.modes.specs.Counts.{count}
 use Rattle.modes.specs.declared.Term.{Term}
 use Rattle.modes.specs.declared.Written.{Written}
 use Rattle.lent.specs.Outputs.{filledOutput, Gives}
@@ -16,9 +14,8 @@ use Rattle.record.specs.Layout.{encode, termsIn}
 use Rattle.record.specs.Refusals.{checkedOf}
 use Rattle.record.specs.Reading.{At}
 use Rattle.record.specs.Weights.{heavierBy}
-use Rattle.record.specs.Blocks.{countIf, earlier, blockOf, bytesIn}
+use Rattle.record.specs.Blocks.{blockOf, bytesIn}
 use Rattle.record.specs.Counting.{countIf, earlier}
-use Rattle.figures.specs.Figures.{rankOf, conservesOf, maxNBodyOf, activeModesOf}
 use Rattle.record.specs.declared.Checked.{Checked}
 use Rattle.record.specs.declared.Stretch.{Stretch}
 

@@ -1,16 +1,14 @@
 -- The record: a header of eight numbers of 4 bytes, then three columns of 8-byte entries, as bytes and read from bytes.
 use Prim.Native.Nat.{ℕ, _+_, _*_}
-use mathlib.Core.Bool.{Bool, true, false, _&&_}
+use mathlib.Core.Bool.{Bool, _&&_}
 use mathlib.Core.List.{List, [], _∷_, _++_, map}
 use lib.Dec.{eqb, leb}
 use lib.ListN.{length}
 use mir.Syntax.{w64}
 use mir.Val.{toZ, ofZ}
 use Rattle.modes.specs.declared.Term.{Term}
-use Rattle.modes.specs.declared.MadeSpace.{MadeSpace}
-use Rattle.modes.specs.declared.MadeSpace.the-variants.{Made, Refused}
 use Rattle.modes.specs.Spaces.{spaceOf, isMade}
-use Rattle.lent.specs.Bytes.{bytes, halfAt, put}
+use Rattle.lent.specs.Bytes.{halfAt}
 use Rattle.rows.specs.declared.Places.{Places}
 use Rattle.record.specs.Numbers.{stored, numbers, sameNumbers}
 

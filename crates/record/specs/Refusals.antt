@@ -2,7 +2,7 @@
 use Prim.Native.Nat.{ℕ, suc, _^_}
 use mathlib.Core.Bool.{Bool, true, not}
 use mathlib.Core.List.{List, [], _∷_}
-use lib.Dec.{eqb, ltb, leb}
+use lib.Dec.{eqb, leb}
 use lib.IntN.{natAbs}
 use Rattle.modes.specs.Refusals.{need, orElse, unless}
 use Rattle.modes.specs.Spaces.{inside}

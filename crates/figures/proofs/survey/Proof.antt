@@ -1,7 +1,5 @@
 -- `figures::survey` meets its contract.
-use mathlib.Core.Path.{ap, _∙_}
-use native.Mathlib.Omega.{arith}
-use Rattle.record.specs.declared.Checked.{Checked}
+use mathlib.Core.Path.{_∙_}
 use Rattle.record.proofs.Accepted.{accepted}
 use Rattle.figures.proofs.Surveys.{survey-refused, survey-accepted}
 use borrow.Author.Needs.{needs}

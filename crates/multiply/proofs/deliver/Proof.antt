@@ -6,8 +6,7 @@ use lib.ListN.{length}
 use Rattle.modes.specs.declared.Refusal.{Refusal}
 use Rattle.modes.specs.Answers.{none}
 use Rattle.lent.specs.Rows.{rowsAt}
-use Rattle.lent.proofs.RowLaws.{length-rows-at}
-use Rattle.record.proofs.Outputs.{refused-late, delivers, gives-as, record-given}
+use Rattle.record.proofs.Outputs.{refused-late, delivers, gives-as}
 use Rattle.lincomb.proofs.Results.{deliverable, Deliverable, refused-late, delivers}
 use Rattle.multiply.proofs.Delivering.{verdict-is}
 use Rattle.multiply.proofs.deliver.Statement.{statement}

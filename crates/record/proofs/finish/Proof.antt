@@ -1,5 +1,4 @@
 -- `record::finish` meets its contract: the header, and zeros past the terms.
-use mathlib.Core.Path.{sym, ap, _∙_}
 use Rattle.record.proofs.Columns.{finished}
 use borrow.Author.Needs.{needs}
 use Rattle.record.proofs.finish.Statement.{statement}

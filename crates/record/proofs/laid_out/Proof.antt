@@ -1,11 +1,6 @@
 -- `record::laid_out` meets its contract.
-use mathlib.Core.Path.{ap₂, sym, ap, _∙_}
-use Prim.Native.Nat.{ℕ}
-use Rattle.modes.specs.Spaces.{spaceOf, isMade}
-use Rattle.record.specs.Numbers.{numbers, sameNumbers}
-use Rattle.record.specs.Layout.{fields}
-use native.Mathlib.Omega.{arith}
-use Rattle.record.proofs.Header.{other-length, no-space, too-many, header-decides, too-short, bad-header, length-decides}
+use mathlib.Core.Path.{sym, _∙_}
+use Rattle.record.proofs.Header.{too-short, bad-header, length-decides}
 use borrow.Author.Tests.{not-true, not-false}
 use borrow.Author.Needs.{needs}
 use Rattle.record.proofs.laid_out.Statement.{statement}
