@@ -8,6 +8,6 @@ fn main() {
     let read = io::read_full(STDIN_FILENO, &mut input);
     let mut work = [0u8; 65520];
     let mut out = [0u8; 49184];
-    let len = stream::commutator(&input[..read], &mut work, &mut out);
+    let len = reply::commutator(&input[..read], &mut work, &mut out);
     io::write_all(STDOUT_FILENO, &out[..len]);
 }

@@ -2,7 +2,7 @@
 use borrow.Author.Needs.{needs}
 use mathlib.Core.Path.{sym}
 use lib.Seq.{length-take-le}
-use Rattle.stream.proofs.Replies.{says-inside}
+use Rattle.reply.proofs.Replies.{says-inside}
 use Rattle.commutator.proofs.main.Statement.{statement}
 use Rattle.commutator.proofs.main.Tie as tie
 

@@ -1,0 +1,54 @@
+-- The line of a refusal: its length, and the stores that make it.
+use mathlib.Core.Path.{_≡_, refl, ap, ap₂, _∙_}
+use mathlib.Core.List.{List, [], _∷_, _++_}
+use Prim.Native.Nat.{ℕ, _+_, _-_, _^_, _≤_, _<_}
+use native.Mathlib.Omega.{arith}
+use native.Mathlib.Nat.{lt-of-lt-of-le, sub-zero}
+use lib.Dec.{lit≤}
+use lib.ListN.{length, take, set}
+use borrow.Author.Tests.{le-leb, lt-leb}
+use Rattle.modes.specs.declared.Refusal.{Refusal}
+use Rattle.lent.specs.Bytes.{put, zeros}
+use Rattle.reply.specs.Decimal.{decimal}
+use Rattle.reply.specs.Lines.{refusedWord, field, refusedLine, lineIn}
+use Rattle.reply.specs.Replies.{Says}
+use Rattle.reply.specs.Stores.{Stored}
+use Rattle.reply.proofs.Decimals.{decimal-length}
+use Rattle.reply.proofs.Stores.{stored-one, stored-join, stored-inside, front-taken}
+
+-- a number of 64 bits has at most 20 digits
+pub twenty : (n : ℕ) → n < 2 ^ 64 → length (decimal n) ≤ 20
+twenty n h = decimal-length 19 n (lt-of-lt-of-le h (lit≤ tt))
+
+pub field-stored : {l k : List ℕ} {o p : ℕ} (n end : ℕ) → o ≤ length l → Stored l o (decimal n) k p → p < length k → Stored l o (field n end) (set k p end) (p + 1)
+field-stored {l} {k} {o} {p} n end h f g = stored-join (decimal n) (end ∷ []) h f (stored-one k p end g)
+
+-- the word and the three fields, one after the other
+pub line-stored : (r : Refusal) (l l1 l2 l3 m : List ℕ) (p q end : ℕ) → 8 ≤ length l → 8 ≤ length l1 → l1 ≡ put l 0 refusedWord
+    → Stored l1 8 (field (r .number) 32) l2 p → Stored l2 p (field (r .operand) 32) l3 q → Stored l3 q (field (r .place) 10) m end
+    → Stored l 0 (refusedLine r) m end
+unfolding refusedLine
+line-stored r l l1 l2 l3 m p q end h h1 e f g k =
+    let two = stored-inside (field (r .number) 32) h1 f in
+    let three = stored-inside (field (r .operand) 32) two g in
+    stored-join refusedWord _ (omega arith) (record { bytes = e; ends = refl })
+    (stored-join (field (r .number) 32) _ h1 f (stored-join (field (r .operand) 32) (field (r .place) 10) two g k))
+
+-- what `tell` leaves: nothing, or the line
+module _ (out : List ℕ) (r : Refusal) (line line' : List ℕ) (n : ℕ) (g : Stored line 0 (refusedLine r) line' n) where
+  is-length : n ≡ length (refusedLine r)
+  is-length = omega (arith, g .ends)
+
+  pub told-nothing : (after : List ℕ) → length out < n → after ≡ zeros (length out) → Says (lineIn (length out) r) (length out) 0 after
+  unfolding lineIn
+  told-nothing after h e = rw (lt-leb (length (refusedLine r)) (length out) (omega (arith, is-length))) (record { len = refl; bytes = rw (sub-zero (length out)) e })
+
+  pub told-line : (mid after : List ℕ) → n ≤ length out → mid ≡ put out 0 (take n line') → length mid ≡ length out → after ≡ take n mid ++ zeros (length mid - n)
+      → Says (lineIn (length out) r) (length out) n after
+  unfolding lineIn
+  told-line mid after h e same f =
+      let text = refusedLine r in
+      let front : take n mid ≡ text =
+      ap (take n) (e ∙ ap (put out 0) (ap (take n) (g .bytes) ∙ front-taken line text n is-length)) ∙ front-taken out text n is-length in
+      rw (le-leb (length text) (length out) (omega (arith, is-length)))
+      (record { len = is-length; bytes = f ∙ ap₂ {C = List ℕ} (λ (x : List ℕ) (k : ℕ). x ++ zeros k) front (ap₂ (λ (x y : ℕ). x - y) same is-length) })

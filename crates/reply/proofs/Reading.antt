@@ -1,0 +1,75 @@
+-- A line can be read back: its digits make the number, and two refusals that differ have different lines.
+use mathlib.Core.Path.{_≡_, refl, sym, ap, _∙_}
+use mathlib.Core.List.{List, [], _∷_, _++_, append-assoc}
+use mathlib.Core.Logic.{⊎-elim}
+use Prim.Native.Nat.{ℕ, zero, suc, _+_, _*_, _-_, _/_, _%_, _≤_, _<_}
+use native.Mathlib.Omega.{arith}
+use lib.ListN.{drop}
+use borrow.Author.Tests.{lt-ltb, le-ltb}
+use Rattle.modes.proofs.Digits.{lt-or-ge}
+use Rattle.modes.specs.declared.Refusal.{Refusal}
+use Rattle.reply.specs.Decimal.{digits, decimal, readOn}
+use Rattle.reply.specs.Lines.{field, refusedLine}
+
+read-append : (n : ℕ) (xs ys : List ℕ) → readOn n (xs ++ ys) ≡ readOn (readOn n xs) ys
+unfolding readOn
+read-append n [] ys = refl
+read-append n (x ∷ xs) ys = read-append (10 * n + (x - 48)) xs ys
+
+digits-read : (k n : ℕ) → n < k → readOn 0 (digits k n) ≡ n
+unfolding digits readOn
+digits-read (suc k) n h =
+    ⊎-elim (λ small. rw (lt-ltb n 10 small) (omega arith))
+    (λ big. rw (le-ltb n 10 big, read-append 0 (digits k (n / 10)) ((48 + n % 10) ∷ []), digits-read k (n / 10) (omega arith)) (omega arith))
+    (lt-or-ge n 10)
+
+-- THE DIGITS of a number make it
+pub decimal-reads : (n : ℕ) → readOn 0 (decimal n) ≡ n
+unfolding decimal
+decimal-reads n = digits-read (suc n) n (omega arith)
+
+pub decimal-one : (m n : ℕ) → decimal m ≡ decimal n → m ≡ n
+decimal-one m n e = sym (decimal-reads m) ∙ ap (readOn 0) e ∙ decimal-reads n
+
+-- no byte is below the digit 0
+data AllDigits : List ℕ → Type 0 where
+  none : AllDigits []
+  more : {d : ℕ} {ds : List ℕ} → 48 ≤ d → AllDigits ds → AllDigits (d ∷ ds)
+
+digits-append : (xs : List ℕ) (d : ℕ) → AllDigits xs → 48 ≤ d → AllDigits (xs ++ (d ∷ []))
+digits-append [] d none h = more h none
+digits-append (x ∷ xs) d (more k ks) h = more k (digits-append xs d ks h)
+
+all-digits : (k n : ℕ) → AllDigits (digits k n)
+unfolding digits
+all-digits zero n = none
+all-digits (suc k) n =
+    ⊎-elim (λ small. rw (lt-ltb n 10 small) (more {d = 48 + n % 10} (omega arith) none))
+    (λ big. rw (le-ltb n 10 big) (digits-append (digits k (n / 10)) (48 + n % 10) (all-digits k (n / 10)) (omega arith)))
+    (lt-or-ge n 10)
+
+-- digits end at the first byte that is none
+apart : (xs ys us vs : List ℕ) (end : ℕ) → end < 48 → AllDigits xs → AllDigits ys → xs ++ (end ∷ us) ≡ ys ++ (end ∷ vs) → (xs ≡ ys) × (us ≡ vs)
+apart [] [] us vs end h none none e = (refl, cc)
+apart [] (y ∷ ys) us vs end h none (more k ks) e = let z : end ≡ y = cc in absurd (omega arith)
+apart (x ∷ xs) [] us vs end h (more k ks) none e = let z : x ≡ end = cc in absurd (omega arith)
+apart (x ∷ xs) (y ∷ ys) us vs end h (more k ks) (more l ls) e =
+    let tails : xs ++ (end ∷ us) ≡ ys ++ (end ∷ vs) = cc in
+    let rest = apart xs ys us vs end h ks ls tails in
+    let heads : x ≡ y = cc in
+    (λ i. heads i ∷ rest .0 i, rest .1)
+
+field-apart : (m n end : ℕ) (us vs : List ℕ) → end < 48 → field m end ++ us ≡ field n end ++ vs → (m ≡ n) × (us ≡ vs)
+unfolding decimal
+field-apart m n end us vs h e =
+    let both = apart (decimal m) (decimal n) us vs end h (all-digits (suc m) m) (all-digits (suc n) n) (sym (append-assoc (decimal m) (end ∷ []) us) ∙ e ∙ append-assoc (decimal n) (end ∷ []) vs) in
+    (decimal-one m n (both .0), both .1)
+
+-- THE LINE of a refusal tells its number, operand and place
+pub line-one : (r s : Refusal) → refusedLine r ≡ refusedLine s → r ≡ s
+unfolding refusedLine
+line-one r s e =
+    let number = field-apart (r .number) (s .number) 32 (field (r .operand) 32 ++ field (r .place) 10) (field (s .operand) 32 ++ field (s .place) 10) (omega arith) (ap (drop 8) e) in
+    let operand = field-apart (r .operand) (s .operand) 32 (field (r .place) 10) (field (s .place) 10) (omega arith) (number .1) in
+    let place = field-apart (r .place) (s .place) 10 [] [] (omega arith) (ap (λ (l : List ℕ). l ++ []) (operand .1)) in
+    λ i. record { number = number .0 i; operand = operand .0 i; place = place .0 i }

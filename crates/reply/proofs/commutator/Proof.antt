@@ -1,0 +1,45 @@
+-- `reply::commutator` meets its contract: the record as it stands, or the line of the refusal.
+use borrow.Author.Needs.{needs}
+use lib.ListN.{length}
+use Rattle.reply.proofs.Replies.{answer-shape, record-told, line-told}
+use Rattle.reply.proofs.commutator.Statement.{statement}
+use Rattle.reply.proofs.commutator.Tie as tie
+
+answer-requires : tie.Need-answer-requires
+answer-requires c κs = search needs
+
+same-length : tie.Need-same-length
+same-length c = search needs
+
+same-length-2 : tie.Need-same-length-2
+same-length-2 c = search needs
+
+returns : tie.Need-returns
+returns c =
+    let s = c .before .before .before .before .before .before .before .before .before .before .before .before .before in
+    record-told _ (answer-shape (length (s .args .work .now)) (length (s .args .out .now)) (s .args .input .now)) (c .before .before .before .before .before .before .before .answer .ensures) (c .if1 .taken)
+
+tell-requires : tie.Need-tell-requires
+tell-requires c κs = search needs
+
+same-length-3 : tie.Need-same-length-3
+same-length-3 c = search needs
+
+same-length-4 : tie.Need-same-length-4
+same-length-4 c = search needs
+
+returns-2 : tie.Need-returns-2
+returns-2 c = line-told (c .before .before .before .before .before .before .before .before .before .before .before .answer .kept .1 .1 .0) (c .before .before .before .before .before .before .before .before .before .before .before .answer .ensures) (c .before .before .before .before .if1 .left) (c .before .before .tell .ensures)
+
+pub commutator-spec : {M : Type 1} → statement M
+commutator-spec =
+    tie.close
+    (tie.spec
+    answer-requires
+    same-length
+    same-length-2
+    returns
+    tell-requires
+    same-length-3
+    same-length-4
+    returns-2)

@@ -1,0 +1,68 @@
+-- `reply::tell` meets its contract: the line made apart, and then to the output if it fits.
+use borrow.Author.Needs.{needs}
+use mathlib.Core.Path.{sym}
+use native.Mathlib.Omega.{arith}
+use lib.Seq.{length-take-le}
+use Rattle.reply.specs.Lines.{refusedLine}
+use Rattle.reply.proofs.Stores.{stored-inside}
+use Rattle.reply.proofs.Lines.{told-nothing, told-line}
+use Rattle.reply.proofs.tell.Statement.{statement}
+use Rattle.reply.proofs.tell.Tie as tie
+
+slice-aggregate-put-line : tie.Need-slice-aggregate-put-line
+slice-aggregate-put-line c = search needs
+
+put-line-requires : tie.Need-put-line-requires
+put-line-requires c κs = search needs
+
+wipe-requires : tie.Need-wipe-requires
+wipe-requires c κs = search needs
+
+same-length : tie.Need-same-length
+same-length c = search needs
+
+returns : tie.Need-returns
+returns c =
+    let s = c .before .before .before .before .before .before .before .before .before in
+    told-nothing (s .args .out .now) (s .args .refusal) _ _ _ (c .before .before .before .before .before .before .put-line .ensures) _ (c .before .before .before .before .if1 .taken) (c .before .before .wipe .ensures)
+
+array-share-prefix-line : tie.Need-array-share-prefix-line
+array-share-prefix-line c = stored-inside (refusedLine (c .before .before .before .before .before .before .args .refusal)) (omega arith) (c .before .before .before .put-line .ensures)
+
+slice-aggregate-put-front : tie.Need-slice-aggregate-put-front
+slice-aggregate-put-front c =
+    let line = c .before .before .before .before .put-line in
+    sym (length-take-le (line .result) (line .last .0) (stored-inside (refusedLine (c .before .before .before .before .before .before .before .args .refusal)) (omega arith) (line .ensures)))
+
+put-front-requires : tie.Need-put-front-requires
+put-front-requires c κs =
+    let line = c .before .before .before .before .put-line in
+    omega (arith, length-take-le (line .result) (line .last .0) (stored-inside (refusedLine (c .before .before .before .before .before .before .before .args .refusal)) (omega arith) (line .ensures)), c .before .before .if1 .left)
+
+wipe-from-requires : tie.Need-wipe-from-requires
+wipe-from-requires c κs = search needs
+
+same-length-2 : tie.Need-same-length-2
+same-length-2 c = search needs
+
+returns-2 : tie.Need-returns-2
+returns-2 c =
+    let s = c .before .before .before .before .before .before .before .before .before .before .before .before .before .before in
+    let front = c .before .before .before .before .before .before .put-front in
+    told-line (s .args .out .now) (s .args .refusal) _ _ _ (c .before .before .before .before .before .before .before .before .before .before .before .put-line .ensures) _ _ (c .before .before .before .before .before .before .before .before .before .if1 .left) (front .ensures) (front .kept .0) (c .before .before .wipe-from .ensures)
+
+pub tell-spec : {M : Type 1} → statement M
+tell-spec =
+    tie.close
+    (tie.spec
+    slice-aggregate-put-line
+    put-line-requires
+    wipe-requires
+    same-length
+    returns
+    array-share-prefix-line
+    slice-aggregate-put-front
+    put-front-requires
+    wipe-from-requires
+    same-length-2
+    returns-2)
