@@ -20,10 +20,9 @@ use Rattle.lent.proofs.RowLaws.{term-of}
 use Rattle.products.specs.Operators.{signed}
 use Rattle.products.proofs.Signs.{signed-zero, abs-signed}
 use Rattle.record.specs.Terms.{before, Above, Ascending, empty, above}
-use Rattle.record.specs.Blocks.{countIf, earlier}
+use Rattle.record.specs.Counting.{countIf, earlier}
 use Rattle.record.specs.Coefficients.{coeffOf}
 use Rattle.record.specs.Canonical.{Nonzero}
-use Rattle.record.specs.Counting.{countIf, earlier}
 use Rattle.record.proofs.Order.{before-one-way}
 use Rattle.record.proofs.Accepted.{abs-zero}
 use Rattle.normal.proofs.Totals.{coeff-normal}

@@ -1,4 +1,4 @@
-// Little-endian words and rows in lent bytes, and wiping.
+// Little-endian words and rows in lent bytes, copying and wiping.
 use modes::Refusal;
 use modes::Term;
 use modes::Written;
@@ -6,7 +6,10 @@ ghost use mathlib.Core.Path.{_≡_};
 ghost use mathlib.Core.List.{_++_};
 ghost use Prim.Native.Nat.{_+_, _-_, _≤_, _<_, _^_};
 ghost use lib.ListN.{length, take};
-ghost use Rattle.lent.specs.Bytes.{halfAt, wordAt, putHalf, putWord, zeros};
+ghost use Rattle.lent.specs.Bytes.{halfAt, wordAt, putHalf, putWord, zeros, put};
+ghost use lib.Signed.{mag};
+ghost use mir.Syntax.{w64};
+ghost use mir.Val.{toZ, ofZ};
 ghost use Rattle.lent.specs.Rows.{Fit, rowAt, putRow};
 ghost use Rattle.lent.specs.Outputs.{Gives, refusedOutput};
 
@@ -74,6 +77,18 @@ pub fn put_row(s: &mut [u8], at: usize, t: Term)
     put_word(s, at, t.ann);
     put_word(s, at + 8, t.cre);
     put_word(s, at + 16, integers::bits(t.coeff));
+}
+
+// All of `from` to `at`.
+pub fn copy(s: &mut [u8], at: usize, from: &[u8])
+    requires { ⌜ at + length (now from) ≤ length (now s) ⌝ }
+    ensures { λ _. ⌜ now (s .exit) ≡ put (now (s .entry)) at (now (from .entry)) ⌝ }
+{
+    let mut i = 0;
+    while i < from.len() {
+        s[at + i] = from[i];
+        i += 1;
+    }
 }
 
 // Every byte to zero.

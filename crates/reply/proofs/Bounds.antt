@@ -22,10 +22,10 @@ use Rattle.record.proofs.Reading.{length-terms}
 use Rattle.modes.proofs.Refusals.{or-first}
 use Rattle.lincomb.specs.Results.{pairRefusal, resultRefusal}
 use Rattle.record.specs.Outputs.{recordOutput}
+use Rattle.decimals.proofs.Decimals.{decimal-length}
 use Rattle.multiply.specs.Answers.{weightRefusal, workRefusal, commutatorOf}
 use Rattle.reply.specs.Lines.{refusedLine}
 use Rattle.reply.specs.Replies.{holdsFirst, answerTo}
-use Rattle.reply.proofs.Decimals.{decimal-length}
 
 pub record Lawful (room : ℕ) (f : Refusal) : Type 0 where
   pub number : f .number ≤ 11

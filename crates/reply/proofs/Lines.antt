@@ -1,27 +1,19 @@
--- The line of a refusal: its length, and the stores that make it.
+-- The line of a refusal: its length, the stores that make it, and that it tells the refusal.
 use mathlib.Core.Path.{_≡_, refl, ap, ap₂, _∙_}
 use mathlib.Core.List.{List, [], _∷_, _++_}
 use Prim.Native.Nat.{ℕ, _+_, _-_, _^_, _≤_, _<_}
 use native.Mathlib.Omega.{arith}
-use native.Mathlib.Nat.{lt-of-lt-of-le, sub-zero}
-use lib.Dec.{lit≤}
-use lib.ListN.{length, take, set}
+use native.Mathlib.Nat.{sub-zero}
+use lib.ListN.{length, take, drop}
 use borrow.Author.Tests.{le-leb, lt-leb}
 use Rattle.modes.specs.declared.Refusal.{Refusal}
 use Rattle.lent.specs.Bytes.{put, zeros}
-use Rattle.reply.specs.Decimal.{decimal}
-use Rattle.reply.specs.Lines.{refusedWord, field, refusedLine, lineIn}
+use Rattle.decimals.specs.Decimal.{field}
+use Rattle.decimals.specs.Stores.{Stored}
+use Rattle.decimals.proofs.Reading.{field-apart}
+use Rattle.decimals.proofs.Stores.{stored-join, stored-inside, front-taken}
+use Rattle.reply.specs.Lines.{refusedWord, refusedLine, lineIn}
 use Rattle.reply.specs.Replies.{Says}
-use Rattle.reply.specs.Stores.{Stored}
-use Rattle.reply.proofs.Decimals.{decimal-length}
-use Rattle.reply.proofs.Stores.{stored-one, stored-join, stored-inside, front-taken}
-
--- a number of 64 bits has at most 20 digits
-pub twenty : (n : ℕ) → n < 2 ^ 64 → length (decimal n) ≤ 20
-twenty n h = decimal-length 19 n (lt-of-lt-of-le h (lit≤ tt))
-
-pub field-stored : {l k : List ℕ} {o p : ℕ} (n end : ℕ) → o ≤ length l → Stored l o (decimal n) k p → p < length k → Stored l o (field n end) (set k p end) (p + 1)
-field-stored {l} {k} {o} {p} n end h f g = stored-join (decimal n) (end ∷ []) h f (stored-one k p end g)
 
 -- the word and the three fields, one after the other
 pub line-stored : (r : Refusal) (l l1 l2 l3 m : List ℕ) (p q end : ℕ) → 8 ≤ length l → 8 ≤ length l1 → l1 ≡ put l 0 refusedWord
@@ -52,3 +44,12 @@ module _ (out : List ℕ) (r : Refusal) (line line' : List ℕ) (n : ℕ) (g : S
       ap (take n) (e ∙ ap (put out 0) (ap (take n) (g .bytes) ∙ front-taken line text n is-length)) ∙ front-taken out text n is-length in
       rw (le-leb (length text) (length out) (omega (arith, is-length)))
       (record { len = is-length; bytes = f ∙ ap₂ {C = List ℕ} (λ (x : List ℕ) (k : ℕ). x ++ zeros k) front (ap₂ (λ (x y : ℕ). x - y) same is-length) })
+
+-- THE LINE of a refusal tells its number, operand and place
+pub line-one : (r s : Refusal) → refusedLine r ≡ refusedLine s → r ≡ s
+unfolding refusedLine
+line-one r s e =
+    let number = field-apart (r .number) (s .number) 32 (field (r .operand) 32 ++ field (r .place) 10) (field (s .operand) 32 ++ field (s .place) 10) (omega arith) (ap (drop 8) e) in
+    let operand = field-apart (r .operand) (s .operand) 32 (field (r .place) 10) (field (s .place) 10) (omega arith) (number .1) in
+    let place = field-apart (r .place) (s .place) 10 [] [] (omega arith) (ap (λ (l : List ℕ). l ++ []) (operand .1)) in
+    λ i. record { number = number .0 i; operand = operand .0 i; place = place .0 i }

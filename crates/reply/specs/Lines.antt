@@ -5,15 +5,11 @@ use Prim.Native.Nat.{ℕ}
 use lib.Dec.{leb}
 use lib.ListN.{length}
 use Rattle.modes.specs.declared.Refusal.{Refusal}
-use Rattle.reply.specs.Decimal.{decimal}
+use Rattle.decimals.specs.Decimal.{field}
 
 -- `refused` and a space, as ASCII
 abbrev pub refusedWord : List ℕ
 refusedWord = 114 ∷ 101 ∷ 102 ∷ 117 ∷ 115 ∷ 101 ∷ 100 ∷ 32 ∷ []
-
--- a number and the byte after it
-abbrev pub field : ℕ → ℕ → List ℕ
-field n end = decimal n ++ (end ∷ [])
 
 -- its number, operand and place, with spaces between them
 unfoldable pub refusedLine : Refusal → List ℕ

@@ -3,73 +3,27 @@
 use modes::Refusal;
 use modes::Written;
 ghost use mathlib.Core.Path.{_≡_};
-ghost use mathlib.Core.List.{[], _∷_};
-ghost use Prim.Native.Nat.{_+_, _≤_, _<_};
+ghost use Prim.Native.Nat.{_≤_};
 ghost use lib.ListN.{length};
 ghost use Rattle.modes.specs.Answers.{refusal};
-ghost use Rattle.lent.specs.Bytes.{put};
 ghost use Rattle.lent.specs.Outputs.{refusedOutput};
+ghost use Rattle.decimals.specs.Stores.{Stored};
 ghost use Rattle.multiply.specs.Answers.{Leaves};
-ghost use Rattle.reply.specs.Decimal.{decimal};
-ghost use Rattle.reply.specs.Lines.{field, refusedLine, lineIn};
+ghost use Rattle.reply.specs.Lines.{refusedLine, lineIn};
 ghost use Rattle.reply.specs.Replies.{holdsFirst, answerTo, replyTo, Says, Replies};
-ghost use Rattle.reply.specs.Stores.{Stored};
 
 // The longest line: the word with its space, and three numbers of at most 20 digits with a byte after each.
 const LONGEST_LINE: usize = 71;
 
-// One digit to `at`, and where it ends.
-fn put_digit(s: &mut [u8], at: usize, digit: u64) -> usize
-    requires { ⌜ (at < length (now s)) × (digit < 10) ⌝ }
-    ensures { λ r. ⌜ Stored (now (s .entry)) at ((48 + digit) ∷ []) (now (s .exit)) r ⌝ }
-{
-    s[at] = b'0' + (digit as u8);
-    at + 1
-}
-
-// The decimal digits of n to `at`, and where they end. It calls itself once for each digit but the last.
-fn put_decimal(s: &mut [u8], at: usize, n: u64) -> usize
-    requires { ⌜ at + length (decimal n) ≤ length (now s) ⌝ }
-    ensures { λ r. ⌜ Stored (now (s .entry)) at (decimal n) (now (s .exit)) r ⌝ }
-{
-    if n < 10 {
-        return put_digit(s, at, n);
-    }
-    let last = put_decimal(s, at, n / 10);
-    put_digit(s, last, n % 10)
-}
-
-// A number and the byte after it to `at`, and where they end: a number of 64 bits has at most 20 digits.
-fn put_field(s: &mut [u8], at: usize, n: u64, end: u8) -> usize
-    requires { ⌜ at + 21 ≤ length (now s) ⌝ }
-    ensures { λ r. ⌜ Stored (now (s .entry)) at (field n end) (now (s .exit)) r × (r ≤ at + 21) ⌝ }
-{
-    let last = put_decimal(s, at, n);
-    s[last] = end;
-    last + 1
-}
-
-// All of `text` to the front.
-fn put_front(s: &mut [u8], text: &[u8])
-    requires { ⌜ length (now text) ≤ length (now s) ⌝ }
-    ensures { λ _. ⌜ now (s .exit) ≡ put (now (s .entry)) 0 (now (text .entry)) ⌝ }
-{
-    let mut i = 0;
-    while i < text.len() {
-        s[i] = text[i];
-        i += 1;
-    }
-}
-
 // The line of a refusal to the front, and its length.
-fn put_line(s: &mut [u8], refusal: Refusal) -> usize
+fn put_line(s: &mut [u8], number: u64, operand: u64, place: u64) -> usize
     requires { ⌜ 71 ≤ length (now s) ⌝ }
-    ensures { λ r. ⌜ Stored (now (s .entry)) 0 (refusedLine refusal) (now (s .exit)) r ⌝ }
+    ensures { λ r. ⌜ Stored (now (s .entry)) 0 (refusedLine (refusal number operand place)) (now (s .exit)) r ⌝ }
 {
-    put_front(s, b"refused ");
-    let operand = put_field(s, 8, refusal.number, b' ');
-    let place = put_field(s, operand, refusal.operand, b' ');
-    put_field(s, place, refusal.place, b'\n')
+    lent::copy(s, 0, b"refused ");
+    let first = decimals::put_field(s, 8, number, b' ');
+    let second = decimals::put_field(s, first, operand, b' ');
+    decimals::put_field(s, second, place, b'\n')
 }
 
 // The line of a refusal, and zeros past it; all zeros where the line is longer than the output.
@@ -77,12 +31,12 @@ fn tell(out: &mut [u8], refusal: Refusal) -> usize
     ensures { λ r. ⌜ Says (lineIn (length (now (out .entry))) refusal) (length (now (out .entry))) r (now (out .exit)) ⌝ }
 {
     let mut line = [0u8; LONGEST_LINE];
-    let len = put_line(&mut line, refusal);
+    let len = put_line(&mut line, refusal.number, refusal.operand, refusal.place);
     if out.len() < len {
         lent::wipe(out);
         return 0;
     }
-    put_front(out, &line[..len]);
+    lent::copy(out, 0, &line[..len]);
     lent::wipe_from(out, len);
     len
 }

@@ -4,7 +4,7 @@ use mathlib.Core.Path.{sym}
 use native.Mathlib.Omega.{arith}
 use lib.Seq.{length-take-le}
 use Rattle.reply.specs.Lines.{refusedLine}
-use Rattle.reply.proofs.Stores.{stored-inside}
+use Rattle.decimals.proofs.Stores.{stored-inside}
 use Rattle.reply.proofs.Lines.{told-nothing, told-line}
 use Rattle.reply.proofs.tell.Statement.{statement}
 use Rattle.reply.proofs.tell.Tie as tie
@@ -29,13 +29,13 @@ returns c =
 array-share-prefix-line : tie.Need-array-share-prefix-line
 array-share-prefix-line c = stored-inside (refusedLine (c .before .before .before .before .before .before .args .refusal)) (omega arith) (c .before .before .before .put-line .ensures)
 
-slice-aggregate-put-front : tie.Need-slice-aggregate-put-front
-slice-aggregate-put-front c =
+slice-aggregate-copy : tie.Need-slice-aggregate-copy
+slice-aggregate-copy c =
     let line = c .before .before .before .before .put-line in
     sym (length-take-le (line .result) (line .last .0) (stored-inside (refusedLine (c .before .before .before .before .before .before .before .args .refusal)) (omega arith) (line .ensures)))
 
-put-front-requires : tie.Need-put-front-requires
-put-front-requires c κs =
+copy-requires : tie.Need-copy-requires
+copy-requires c κs =
     let line = c .before .before .before .before .put-line in
     omega (arith, length-take-le (line .result) (line .last .0) (stored-inside (refusedLine (c .before .before .before .before .before .before .before .args .refusal)) (omega arith) (line .ensures)), c .before .before .if1 .left)
 
@@ -48,7 +48,7 @@ same-length-2 c = search needs
 returns-2 : tie.Need-returns-2
 returns-2 c =
     let s = c .before .before .before .before .before .before .before .before .before .before .before .before .before .before in
-    let front = c .before .before .before .before .before .before .put-front in
+    let front = c .before .before .before .before .before .before .copy in
     told-line (s .args .out .now) (s .args .refusal) _ _ _ (c .before .before .before .before .before .before .before .before .before .before .before .put-line .ensures) _ _ (c .before .before .before .before .before .before .before .before .before .if1 .left) (front .ensures) (front .kept .0) (c .before .before .wipe-from .ensures)
 
 pub tell-spec : {M : Type 1} → statement M
@@ -61,8 +61,8 @@ tell-spec =
     same-length
     returns
     array-share-prefix-line
-    slice-aggregate-put-front
-    put-front-requires
+    slice-aggregate-copy
+    copy-requires
     wipe-from-requires
     same-length-2
     returns-2)

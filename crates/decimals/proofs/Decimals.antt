@@ -1,16 +1,17 @@
--- Decimal digits: as the code makes them, how many there are, and that they can be read back.
+-- Decimal digits: as the code makes them, and how many there are.
 use mathlib.Core.Path.{_≡_, ap}
 use mathlib.Core.List.{List, [], _∷_, _++_}
 use mathlib.Core.Logic.{⊎-elim}
 use Prim.Native.Nat.{ℕ, zero, suc, _+_, _/_, _%_, _^_, _≤_, _<_}
 use native.Mathlib.Omega.{arith}
-use native.Mathlib.Nat.{pow-suc}
-use lib.ListN.{length, length-append}
+use native.Mathlib.Nat.{pow-suc, lt-of-lt-of-le}
+use lib.Dec.{lit≤}
+use lib.ListN.{length, set, length-append}
 use borrow.Author.Tests.{lt-ltb, le-ltb}
 use Rattle.modes.proofs.Digits.{lt-or-ge}
-use Rattle.reply.specs.Decimal.{digits, decimal}
-use Rattle.reply.specs.Stores.{Stored}
-use Rattle.reply.proofs.Stores.{stored-join}
+use Rattle.decimals.specs.Decimal.{digits, decimal, field}
+use Rattle.decimals.specs.Stores.{Stored}
+use Rattle.decimals.proofs.Stores.{stored-one, stored-join}
 
 -- where there are enough, it does not matter how many more
 enough : (j k n : ℕ) → n < j → n < k → digits j n ≡ digits k n
@@ -35,6 +36,10 @@ decimal-length (suc k) n h =
     (λ big. rw (decimal-more n big, length-append) (omega (arith, decimal-length k (n / 10) (omega (arith, pow-suc 10 (suc k))))))
     (lt-or-ge n 10)
 
+-- a number of 64 bits has at most 20 digits
+pub twenty : (n : ℕ) → n < 2 ^ 64 → length (decimal n) ≤ 20
+twenty n h = decimal-length 19 n (lt-of-lt-of-le h (lit≤ tt))
+
 -- what the stores of the digits give
 module _ (l : List ℕ) (o n : ℕ) (m : List ℕ) (q : ℕ) where
   pub digit-stored : n < 10 → Stored l o ((48 + n) ∷ []) m q → Stored l o (decimal n) m q
@@ -48,3 +53,13 @@ length-digit n h = rw (decimal-digit n h)
 
 pub length-more : (n : ℕ) → 10 ≤ n → length (decimal n) ≡ length (decimal (n / 10)) + 1
 length-more n h = rw (decimal-more n h, length-append)
+
+-- a number and the byte after it
+pub length-field : (n end : ℕ) → length (field n end) ≡ length (decimal n) + 1
+length-field n end = length-append (decimal n) (end ∷ [])
+
+pub twenty-one : (n end : ℕ) → n < 2 ^ 64 → length (field n end) ≤ 21
+twenty-one n end h = omega (arith, length-field n end, twenty n h)
+
+pub field-stored : {l k : List ℕ} {o p : ℕ} (n end : ℕ) → o ≤ length l → Stored l o (decimal n) k p → p < length k → Stored l o (field n end) (set k p end) (p + 1)
+field-stored {l} {k} {o} {p} n end h f g = stored-join (decimal n) (end ∷ []) h f (stored-one k p end g)

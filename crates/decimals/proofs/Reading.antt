@@ -1,15 +1,12 @@
--- A line can be read back: its digits make the number, and two refusals that differ have different lines.
+-- Digits can be read back: they make the number, and end at the first byte that is none.
 use mathlib.Core.Path.{_≡_, refl, sym, ap, _∙_}
 use mathlib.Core.List.{List, [], _∷_, _++_, append-assoc}
 use mathlib.Core.Logic.{⊎-elim}
 use Prim.Native.Nat.{ℕ, zero, suc, _+_, _*_, _-_, _/_, _%_, _≤_, _<_}
 use native.Mathlib.Omega.{arith}
-use lib.ListN.{drop}
 use borrow.Author.Tests.{lt-ltb, le-ltb}
 use Rattle.modes.proofs.Digits.{lt-or-ge}
-use Rattle.modes.specs.declared.Refusal.{Refusal}
-use Rattle.reply.specs.Decimal.{digits, decimal, readOn}
-use Rattle.reply.specs.Lines.{field, refusedLine}
+use Rattle.decimals.specs.Decimal.{digits, decimal, field, readOn}
 
 read-append : (n : ℕ) (xs ys : List ℕ) → readOn n (xs ++ ys) ≡ readOn (readOn n xs) ys
 unfolding readOn
@@ -59,17 +56,9 @@ apart (x ∷ xs) (y ∷ ys) us vs end h (more k ks) (more l ls) e =
     let heads : x ≡ y = cc in
     (λ i. heads i ∷ rest .0 i, rest .1)
 
-field-apart : (m n end : ℕ) (us vs : List ℕ) → end < 48 → field m end ++ us ≡ field n end ++ vs → (m ≡ n) × (us ≡ vs)
+-- two fields with the same byte after the number, whatever follows each
+pub field-apart : (m n end : ℕ) (us vs : List ℕ) → end < 48 → field m end ++ us ≡ field n end ++ vs → (m ≡ n) × (us ≡ vs)
 unfolding decimal
 field-apart m n end us vs h e =
     let both = apart (decimal m) (decimal n) us vs end h (all-digits (suc m) m) (all-digits (suc n) n) (sym (append-assoc (decimal m) (end ∷ []) us) ∙ e ∙ append-assoc (decimal n) (end ∷ []) vs) in
     (decimal-one m n (both .0), both .1)
-
--- THE LINE of a refusal tells its number, operand and place
-pub line-one : (r s : Refusal) → refusedLine r ≡ refusedLine s → r ≡ s
-unfolding refusedLine
-line-one r s e =
-    let number = field-apart (r .number) (s .number) 32 (field (r .operand) 32 ++ field (r .place) 10) (field (s .operand) 32 ++ field (s .place) 10) (omega arith) (ap (drop 8) e) in
-    let operand = field-apart (r .operand) (s .operand) 32 (field (r .place) 10) (field (s .place) 10) (omega arith) (number .1) in
-    let place = field-apart (r .place) (s .place) 10 [] [] (omega arith) (ap (λ (l : List ℕ). l ++ []) (operand .1)) in
-    λ i. record { number = number .0 i; operand = operand .0 i; place = place .0 i }

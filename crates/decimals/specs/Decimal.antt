@@ -13,6 +13,10 @@ digits (suc k) n = let higher = digits k (n / 10) in cond (ltb n 10) [] higher +
 unfoldable pub decimal : ℕ → List ℕ
 decimal n = digits (suc n) n
 
+-- a number and the byte after it
+abbrev pub field : ℕ → ℕ → List ℕ
+field n end = decimal n ++ (end ∷ [])
+
 -- the number that digits make, read on after the number n
 unfoldable pub readOn : ℕ → List ℕ → ℕ
 readOn n [] = n

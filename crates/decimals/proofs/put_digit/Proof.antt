@@ -1,9 +1,9 @@
--- `reply::put_digit` meets its contract.
+-- `decimals::put_digit` meets its contract.
 use borrow.Author.Needs.{needs}
 use Prim.Native.Nat.{_+_}
-use Rattle.reply.proofs.Stores.{stored-one}
-use Rattle.reply.proofs.put_digit.Statement.{statement}
-use Rattle.reply.proofs.put_digit.Tie as tie
+use Rattle.decimals.proofs.Stores.{stored-one}
+use Rattle.decimals.proofs.put_digit.Statement.{statement}
+use Rattle.decimals.proofs.put_digit.Tie as tie
 
 cast-s : tie.Need-cast-s
 cast-s c = search needs

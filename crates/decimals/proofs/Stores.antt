@@ -3,20 +3,16 @@ use mathlib.Core.Path.{_≡_, refl, sym, ap, _∙_}
 use mathlib.Core.List.{List, [], _∷_, _++_}
 use Prim.Native.Nat.{ℕ, _+_, _≤_, _<_}
 use native.Mathlib.Omega.{arith}
-use native.Mathlib.Nat.{zero-add, add-assoc}
-use native.Mathlib.Numerals.{add-one}
-use lib.ListN.{length, getD, take, drop, set, length-append}
-use lib.Seq.{length-take-le, take-suc, take-at}
+use native.Mathlib.Nat.{add-assoc}
+use lib.ListN.{length, take, drop, set, length-append}
+use lib.Seq.{length-take-le, take-at}
 use Rattle.lent.specs.Bytes.{put}
 use Rattle.lent.proofs.Puts.{put-sets, put-join}
-use Rattle.reply.specs.Stores.{Stored}
+use Rattle.decimals.specs.Stores.{Stored}
 
 -- one byte
-pub put-one : (l : List ℕ) (o b : ℕ) → o < length l → set l o b ≡ put l o (b ∷ [])
-put-one l o b h = put-sets l o (b ∷ []) (omega arith)
-
 pub stored-one : (l : List ℕ) (o b : ℕ) → o < length l → Stored l o (b ∷ []) (set l o b) (o + 1)
-stored-one l o b h = record { bytes = put-one l o b h; ends = refl }
+stored-one l o b h = record { bytes = put-sets l o (b ∷ []) (omega arith); ends = refl }
 
 -- one text after the other
 pub stored-join : {l m k : List ℕ} {o p q : ℕ} (x y : List ℕ) → o ≤ length l → Stored l o x m p → Stored m p y k q → Stored l o (x ++ y) k q
@@ -25,13 +21,6 @@ stored-join {l} {m} {k} {o} {p} {q} x y h f g =
       bytes = g .bytes ∙ ap (λ (z : List ℕ). put z p y) (f .bytes) ∙ put-join l x y o p h (sym (f .ends));
       ends = g .ends ∙ rw (f .ends, length-append) (add-assoc o (length x) (length y));
     }
-
--- one byte more of a text that goes to the front
-pub put-more : (l text : List ℕ) (i : ℕ) → i < length text → length text ≤ length l
-    → put (put l 0 (take i text)) i (getD text i 0 ∷ []) ≡ put l 0 (take (i + 1) text)
-put-more l text i h k =
-    put-join l (take i text) (getD text i 0 ∷ []) 0 i (omega arith) (rw zero-add (length-take-le i text (omega arith)))
-    ∙ rw (add-one, take-suc text i 0 h)
 
 -- a text ends inside the bytes that it is stored in
 pub stored-inside : {l m : List ℕ} {o p : ℕ} (x : List ℕ) → o ≤ length l → Stored l o x m p → p ≤ length m

@@ -1,16 +1,16 @@
--- `reply::put_decimal` meets its contract: the higher digits, and the last after them.
+-- `decimals::put_decimal` meets its contract: the higher digits, and the last after them.
 use Prim.Native.Nat.{ℕ, _<_}
 use native.Mathlib.Omega.{arith}
 use borrow.Author.Needs.{needs}
-use Rattle.reply.proofs.Decimals.{digit-stored, digits-stored, length-digit, length-more}
+use Rattle.decimals.proofs.Decimals.{digit-stored, digits-stored, length-digit, length-more}
 use borrow.Fn.Kinds.{In}
 use borrow.Fn.PlainCycle.{Measures, is, falls, and}
-use Rattle.reply.proofs.put_decimal.Reads as put-decimal
-use Rattle.reply.proofs.put_decimal.Kinds as put-decimal-kinds
-use Rattle.reply.proofs.+put_decimal.Lts-put_decimal as put-decimal-lts
-use Rattle.reply.proofs.put_digit.Reads as put-digit-reads
-use Rattle.reply.proofs.+put_decimal.{statement}
-use Rattle.reply.proofs.+put_decimal.Tie.{close}
+use Rattle.decimals.proofs.put_decimal.Reads as put-decimal
+use Rattle.decimals.proofs.put_decimal.Kinds as put-decimal-kinds
+use Rattle.decimals.proofs.+put_decimal.Lts-put_decimal as put-decimal-lts
+use Rattle.decimals.proofs.put_digit.Reads as put-digit-reads
+use Rattle.decimals.proofs.+put_decimal.{statement}
+use Rattle.decimals.proofs.+put_decimal.Tie.{close}
 
 abbrev μ-put-decimal : Measures 1 put-decimal-kinds.ps ℕ
 μ-put-decimal κs a = a .1 .1 .0
