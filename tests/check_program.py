@@ -254,6 +254,14 @@ def check_products(program, rng):
     assert program.judge("a result of 2,049 terms", ladders(11, 1)) == line(10, 0, 0)
 
 
+def check_work(program, rng):
+    """As many branches as the work has rows, 2,730, and one more: {0|0} with pairs of modes has two for each, with {0|} one."""
+    words = rng.sample([1 << i | 1 << j for i in range(64) for j in range(i)], 1365)
+    number, twos = records.encode(64, [(1, 1, 1)]), [(word, word, 1) for word in sorted(words)]
+    assert program.judge("2,730 branches", number + records.encode(64, twos)) == records.encode(64, [])
+    assert program.judge("2,731 branches", number + records.encode(64, [(0, 1, 1), *twos])) == line(7, 0, 0)
+
+
 def check_pieces(program, rng):
     """The same input byte by byte, and with its records apart."""
     a, b = (records.encode(3, draws.many(rng, 3, 3)) for _ in "ab")
@@ -268,7 +276,7 @@ def main():
     rng, program = random.Random(SEED), Program()
     check_stored(program)
     check_example(program)
-    for check in (check_headers, check_surplus, check_damaged, check_products, check_pieces):
+    for check in (check_headers, check_surplus, check_damaged, check_products, check_work, check_pieces):
         check(program, rng)
     program.close()
 

@@ -4,10 +4,9 @@ use libc::STDIN_FILENO;
 use libc::STDOUT_FILENO;
 
 fn main() {
-    let mut input = [0u8; 98369];
+    let mut input = [0u8; reply::LONGEST_INPUT];
     let read = io::read_full(STDIN_FILENO, &mut input);
-    let mut work = [0u8; 65520];
-    let mut out = [0u8; 49184];
-    let len = reply::commutator(&input[..read], &mut work, &mut out);
+    let mut out = [0u8; reply::ROOM];
+    let len = reply::reply(&input[..read], &mut out);
     io::write_all(STDOUT_FILENO, &out[..len]);
 }

@@ -32,7 +32,7 @@ use Rattle.stream.specs.Reported.{Commutator, Reported, line, result}
 use Rattle.stream.proofs.Replies.{total-decides}
 use Rattle.stream.proofs.Bounds.{lawful-line, lawful-answer}
 use Rattle.reply.specs.Lines.{refusedLine, lineIn}
-use Rattle.reply.specs.Replies.{totalOf, firstOf, secondOf, holdsFirst, answerTo, textOf, replyTo, Replies}
+use Rattle.reply.specs.Replies.{totalOf, firstOf, secondOf, holdsFirst, answerTo, textOf, replyTo, workSize, roomSize, Says}
 use Rattle.reply.specs.Reported.{Commutator, Reported, line, result}
 use Rattle.reply.proofs.Replies.{total-decides}
 use Rattle.reply.proofs.Bounds.{lawful-line, lawful-answer}
@@ -185,5 +185,9 @@ module _ (work room : ℕ) (input : List ℕ) where
       go false e = line (answer .answer .refusal) (eqb-false _ _ e) (line-fits room (answer .answer .refusal) (omega (arith, lawful-line (answer .answer .refusal) (lawful-answer work room input))))
 
   -- THE REPLY: of the bytes to be written, as they stand in the output
-  pub reply-told : 18 ≤ room → (r : ℕ) (after clean : List ℕ) → Replies (replyTo work room input) room r after work clean → Reported input (take r after)
-  reply-told h r after clean g = rw (ap (take r) (g .says .bytes) ∙ take-at (replyTo work room input) _ r (sym (g .says .len))) (told h)
+  pub reply-told : 18 ≤ room → (r : ℕ) (after : List ℕ) → Says (replyTo work room input) room r after → Reported input (take r after)
+  reply-told h r after g = rw (ap (take r) (g .bytes) ∙ take-at (replyTo work room input) _ r (sym (g .len))) (told h)
+
+-- THE PROGRAM'S REPLY, at its sizes
+pub program-told : (input : List ℕ) (r : ℕ) (after : List ℕ) → Says (replyTo workSize roomSize input) roomSize r after → Reported input (take r after)
+program-told input = reply-told workSize roomSize input (omega arith)

@@ -2,7 +2,7 @@
 use mathlib.Core.Path.{_≡_}
 use mathlib.Core.Bool.{Bool, cond, _&&_}
 use mathlib.Core.List.{List, _++_}
-use Prim.Native.Nat.{ℕ, _-_}
+use Prim.Native.Nat.{ℕ, _+_, _*_, _-_}
 use lib.Dec.{eqb, leb}
 use lib.ListN.{length, take, drop}
 use Rattle.modes.specs.Answers.{refusal}
@@ -35,6 +35,14 @@ textOf room o = cond (eqb (o .answer .refusal .number) 0) (take (o .answer .len)
 -- the bytes for standard output
 abbrev pub replyTo : ℕ → ℕ → List ℕ → List ℕ
 replyTo work room input = textOf room (answerTo work room input)
+
+-- the program's work: a row of 24 bytes for each of 2,730 branches
+abbrev pub workSize : ℕ
+workSize = 24 * 2730
+
+-- the program's output, as long as the longest record: a header of 32 bytes, and 24 for each of 2,048 terms
+abbrev pub roomSize : ℕ
+roomSize = 32 + 24 * 2048
 
 -- a length and a whole output of `room` bytes are those of a text: the text, and zeros past it
 pub record Says (text : List ℕ) (room r : ℕ) (after : List ℕ) : Type 0 where

@@ -10,7 +10,16 @@ ghost use Rattle.lent.specs.Outputs.{refusedOutput};
 ghost use Rattle.decimals.specs.Stores.{Stored};
 ghost use Rattle.multiply.specs.Answers.{Leaves};
 ghost use Rattle.reply.specs.Lines.{refusedLine, lineIn};
-ghost use Rattle.reply.specs.Replies.{holdsFirst, answerTo, replyTo, Says, Replies};
+ghost use Rattle.reply.specs.Replies.{holdsFirst, answerTo, replyTo, workSize, roomSize, Says, Replies};
+
+// The work of a reply: a row of 24 bytes for each of 2,730 branches.
+const WORK: usize = 24 * 2730;
+
+// The output of a reply, as long as the longest record: a header of 32 bytes, and 24 for each of 2,048 terms.
+pub const ROOM: usize = 32 + 24 * 2048;
+
+// The longest input that counts: two longest records, and the byte that is one too many.
+pub const LONGEST_INPUT: usize = 2 * ROOM + 1;
 
 // The longest line: the word with its space, and three numbers of at most 20 digits with a byte after each.
 const LONGEST_LINE: usize = 71;
@@ -86,4 +95,12 @@ pub fn commutator(input: &[u8], work: &mut [u8], out: &mut [u8]) -> usize
         return a.len;
     }
     tell(out, refusal)
+}
+
+// The same with a work of its own, and an output that holds every record and every line: all that the program says.
+pub fn reply(input: &[u8], out: &mut [u8; ROOM]) -> usize
+    ensures { λ r. ⌜ Says (replyTo workSize roomSize (now (input .entry))) roomSize r (now (out .exit)) ⌝ }
+{
+    let mut work = [0u8; WORK];
+    commutator(input, &mut work, out)
 }

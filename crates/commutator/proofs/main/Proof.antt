@@ -15,24 +15,18 @@ read-full-requires c κs = search needs
 array-share-prefix-input : tie.Need-array-share-prefix-input
 array-share-prefix-input c = search needs
 
-slice-aggregate-commutator : tie.Need-slice-aggregate-commutator
-slice-aggregate-commutator c = search needs
+slice-aggregate-reply : tie.Need-slice-aggregate-reply
+slice-aggregate-reply c = search needs
 
-slice-aggregate-commutator-2 : tie.Need-slice-aggregate-commutator-2
-slice-aggregate-commutator-2 c = search needs
-
-slice-aggregate-commutator-3 : tie.Need-slice-aggregate-commutator-3
-slice-aggregate-commutator-3 c = search needs
-
-commutator-requires : tie.Need-commutator-requires
-commutator-requires c κs = search needs
+reply-requires : tie.Need-reply-requires
+reply-requires c κs = search needs
 
 array-share-prefix-out : tie.Need-array-share-prefix-out
-array-share-prefix-out c = says-inside (c .before .before .commutator .ensures .says)
+array-share-prefix-out c = says-inside (c .reply .ensures)
 
 slice-aggregate-write-all : tie.Need-slice-aggregate-write-all
 slice-aggregate-write-all c =
-    let called = c .before .before .before .commutator in sym (length-take-le (called .result) (called .last .1 .1 .0) (says-inside (called .ensures .says)))
+    let called = c .before .reply in sym (length-take-le (called .result) (called .last .1 .0) (says-inside (called .ensures)))
 
 write-all-requires : tie.Need-write-all-requires
 write-all-requires c κs = search needs
@@ -47,10 +41,8 @@ main-spec =
     slice-aggregate-read-full
     read-full-requires
     array-share-prefix-input
-    slice-aggregate-commutator
-    slice-aggregate-commutator-2
-    slice-aggregate-commutator-3
-    commutator-requires
+    slice-aggregate-reply
+    reply-requires
     array-share-prefix-out
     slice-aggregate-write-all
     write-all-requires
