@@ -84,10 +84,10 @@ pub fn copy(s: &mut [u8], at: usize, from: &[u8])
     requires { ⌜ at + length (now from) ≤ length (now s) ⌝ }
     ensures { λ _. ⌜ now (s .exit) ≡ put (now (s .entry)) at (now (from .entry)) ⌝ }
 {
-    let mut i = 0;
-    while i < from.len() {
-        s[at + i] = from[i];
-        i += 1;
+    let mut k = 0;
+    while k < from.len() {
+        s[at + k] = from[k];
+        k += 1;
     }
 }
 

@@ -16,8 +16,9 @@ same-length-2 c = search needs
 
 returns : tie.Need-returns
 returns c =
-    let s = c .before .before .before .before .before .before .before .before .before .before .before .before .before in
-    record-told _ (answer-shape (length (s .args .work .now)) (length (s .args .out .now)) (s .args .input .now)) (c .before .before .before .before .before .before .before .answer .ensures) (c .if1 .taken)
+    let answered = c .before .before .before .before .before .before .before in
+    let s = answered .before .before .before .before .before .before in
+    record-told _ (answer-shape (length (s .args .work .now)) (length (s .args .out .now)) (s .args .input .now)) (answered .answer .ensures) (c .if1 .taken)
 
 tell-requires : tie.Need-tell-requires
 tell-requires c κs = search needs
@@ -29,7 +30,10 @@ same-length-4 : tie.Need-same-length-4
 same-length-4 c = search needs
 
 returns-2 : tie.Need-returns-2
-returns-2 c = line-told (c .before .before .before .before .before .before .before .before .before .before .before .answer .kept .1 .1 .0) (c .before .before .before .before .before .before .before .before .before .before .before .answer .ensures) (c .before .before .before .before .if1 .left) (c .before .before .tell .ensures)
+returns-2 c =
+    let refused = c .before .before .before .before in
+    let answered = refused .before .before .before .before .before .before .before in
+    line-told (answered .answer .kept .1 .1 .0) (answered .answer .ensures) (refused .if1 .left) (c .before .before .tell .ensures)
 
 pub commutator-spec : {M : Type 1} → statement M
 commutator-spec =

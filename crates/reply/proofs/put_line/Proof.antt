@@ -36,7 +36,8 @@ put-field-requires-3 c κs =
     let one = twenty-one (s .args .number) 32 (s .fits .number .fits) in
     let two = twenty-one (s .args .operand) 32 (s .fits .operand .fits) in
     let three = twenty-one (s .args .place) 10 (s .fits .place .fits) in
-    omega (arith, s .pre, word .copy .kept .0, first .put-field .kept .0, first .put-field .ensures .ends, second .put-field2 .kept .0, second .put-field2 .ensures .ends, one, two, three)
+    omega
+    (arith, s .pre, word .copy .kept .0, first .put-field .kept .0, first .put-field .ensures .ends, second .put-field2 .kept .0, second .put-field2 .ensures .ends, one, two, three)
 
 same-length : tie.Need-same-length
 same-length c = search needs
@@ -49,7 +50,8 @@ returns c =
     let word = first .before .before .before .before in
     let s = word .before .before .before .before in
     let told = refusal (s .args .number) (s .args .operand) (s .args .place) in
-    line-stored told (s .args .s .now) _ _ _ _ _ _ _ (omega (arith, s .pre)) (omega (arith, s .pre, word .copy .kept .0)) (word .copy .ensures) (first .put-field .ensures) (second .put-field2 .ensures) (third .put-field3 .ensures)
+    line-stored told (s .args .s .now) _ _ _ _ _ _ _ (omega (arith, s .pre)) (omega (arith, s .pre, word .copy .kept .0))
+    (word .copy .ensures) (first .put-field .ensures) (second .put-field2 .ensures) (third .put-field3 .ensures)
 
 pub put-line-spec : {M : Type 1} → statement M
 put-line-spec =

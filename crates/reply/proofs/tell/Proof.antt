@@ -23,21 +23,27 @@ same-length c = search needs
 
 returns : tie.Need-returns
 returns c =
-    let s = c .before .before .before .before .before .before .before .before .before in
-    told-nothing (s .args .out .now) (s .args .refusal) _ _ _ (c .before .before .before .before .before .before .put-line .ensures) _ (c .before .before .before .before .if1 .taken) (c .before .before .wipe .ensures)
+    let short = c .before .before .before .before in
+    let made = short .before .before in
+    let s = made .before .before .before in
+    told-nothing (s .args .out .now) (s .args .refusal) _ _ _ (made .put-line .ensures) _ (short .if1 .taken) (c .before .before .wipe .ensures)
 
 array-share-prefix-line : tie.Need-array-share-prefix-line
-array-share-prefix-line c = stored-inside (refusedLine (c .before .before .before .before .before .before .args .refusal)) (omega arith) (c .before .before .before .put-line .ensures)
+array-share-prefix-line c =
+    let made = c .before .before .before in stored-inside (refusedLine (made .before .before .before .args .refusal)) (omega arith) (made .put-line .ensures)
 
 slice-aggregate-copy : tie.Need-slice-aggregate-copy
 slice-aggregate-copy c =
-    let line = c .before .before .before .before .put-line in
-    sym (length-take-le (line .result) (line .last .0) (stored-inside (refusedLine (c .before .before .before .before .before .before .before .args .refusal)) (omega arith) (line .ensures)))
+    let made = c .before .before .before .before in
+    let line = made .put-line in
+    sym (length-take-le (line .result) (line .last .0) (stored-inside (refusedLine (made .before .before .before .args .refusal)) (omega arith) (line .ensures)))
 
 copy-requires : tie.Need-copy-requires
 copy-requires c κs =
-    let line = c .before .before .before .before .put-line in
-    omega (arith, length-take-le (line .result) (line .last .0) (stored-inside (refusedLine (c .before .before .before .before .before .before .before .args .refusal)) (omega arith) (line .ensures)), c .before .before .if1 .left)
+    let made = c .before .before .before .before in
+    let line = made .put-line in
+    let inside = stored-inside (refusedLine (made .before .before .before .args .refusal)) (omega arith) (line .ensures) in
+    omega (arith, length-take-le (line .result) (line .last .0) inside, c .before .before .if1 .left)
 
 wipe-from-requires : tie.Need-wipe-from-requires
 wipe-from-requires c κs = search needs
@@ -47,9 +53,12 @@ same-length-2 c = search needs
 
 returns-2 : tie.Need-returns-2
 returns-2 c =
-    let s = c .before .before .before .before .before .before .before .before .before .before .before .before .before .before in
-    let front = c .before .before .before .before .before .before .copy in
-    told-line (s .args .out .now) (s .args .refusal) _ _ _ (c .before .before .before .before .before .before .before .before .before .before .before .put-line .ensures) _ _ (c .before .before .before .before .before .before .before .before .before .if1 .left) (front .ensures) (front .kept .0) (c .before .before .wipe-from .ensures)
+    let copied = c .before .before .before .before .before .before in
+    let long = copied .before .before .before in
+    let made = long .before .before in
+    let s = made .before .before .before in
+    told-line (s .args .out .now) (s .args .refusal) _ _ _ (made .put-line .ensures) _ _ (long .if1 .left)
+    (copied .copy .ensures) (copied .copy .kept .0) (c .before .before .wipe-from .ensures)
 
 pub tell-spec : {M : Type 1} → statement M
 tell-spec =
