@@ -255,11 +255,16 @@ def check_products(program, rng):
 
 
 def check_work(program, rng):
-    """As many branches as the work has rows, 2,730, and one more: {0|0} with pairs of modes has two for each, with {0|} one."""
-    words = rng.sample([1 << i | 1 << j for i in range(64) for j in range(i)], 1365)
-    number, twos = records.encode(64, [(1, 1, 1)]), [(word, word, 1) for word in sorted(words)]
-    assert program.judge("2,730 branches", number + records.encode(64, twos)) == records.encode(64, [])
-    assert program.judge("2,731 branches", number + records.encode(64, [(0, 1, 1), *twos])) == line(7, 0, 0)
+    """The work exactly full, and one row more, over both orders: {0|0} and {|w} on other modes commute, with a row in each
+    order, and {0|} has one row after {0|0} and none before it."""
+    number, none = [(1, 1, 1)], records.encode(64, [])
+    for words in (range(1, 1366), sorted(rng.sample(range(1, 2**63), 1365))):
+        fits = [(word << 1, 0, rng.choice((-2, -1, 1, 3))) for word in words]
+        for terms, branches, reply in ((fits, 2730, none), ([(0, 1, 1), *fits], 2731, line(7, 0, 0))):
+            assert records.branch_count(number, terms) + records.branch_count(terms, number) == branches
+            for pair in ((number, terms), (terms, number)):
+                data = b"".join(records.encode(64, rows) for rows in pair)
+                assert program.judge(f"{branches:,} branches in a work of {WORK:,} bytes", data) == reply
 
 
 def check_pieces(program, rng):
@@ -276,7 +281,7 @@ def main():
     rng, program = random.Random(SEED), Program()
     check_stored(program)
     check_example(program)
-    for check in (check_headers, check_surplus, check_damaged, check_products, check_work, check_pieces):
+    for check in (check_headers, check_surplus, check_damaged, check_products, check_pieces, check_work):
         check(program, rng)
     program.close()
 
