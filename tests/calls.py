@@ -1,25 +1,18 @@
-"""Calls of the library beside records.py: the same arguments, and the whole answer compared.
+"""Calls of the library beside their models: the same arguments (functions.py), and the whole answer compared.
 
-An argument is what the function of that name in records.py takes: a word, a record's bytes, a list of words, a
-list of binary64s by their bits, or the length of a buffer that is lent for writing.
+Every function of the C face is called from Python by `Calls.call` and in no other way: garbage in everything lent for
+writing, guards around all memory, and everything compared after the call.
 """
-import ctypes
+import os
 import random
+import sys
 
 import face
+import header
 import records
+from functions import ANSWER, FACE
 
-# u a word; r bytes to read; w words to read; o bytes lent for writing. Then what is lent without a length.
-TAKES = {
-    "mul_cmpnts": "uuuuo", "check": "r", "add": "rro", "sub": "rro", "mul": "rroo", "commutator": "rroo",
-    "anticommutator": "rroo", "adjoint": "ro", "is_hermitian": "r", "conserves_particle_number": "r",
-    "max_n_body": "r", "active_modes": "r", "block": "ru", "element": "ruu", "mat_ortho_projected": "rw",
-    "compare": "rr", "branches": "rr", "mat_elem_real": "uwwwuu", "mat_elem_complex": "uwwwwuu",
-}
-FIXED = {"mat_ortho_projected": 512, "mat_elem_real": 16, "mat_elem_complex": 16}
-PASSED = {"u": [ctypes.c_uint64], "r": [ctypes.c_void_p, ctypes.c_size_t]}
-PASSED["w"] = PASSED["o"] = PASSED["r"]
-MISSING = "no such function"
+MISSING = records.Answer(["no such function", *[0] * 7], ())
 
 
 def garbage(rng, length):
@@ -31,9 +24,9 @@ def garbage(rng, length):
 
 def first_other(got, expected):
     """Where two answers part, for a message."""
-    if got == MISSING or got == expected:
-        return ""
     for i, (a, b) in enumerate(zip(got.lent, expected.lent)):
+        if len(a) != len(b):
+            return f", buffer {i} has {len(a)} bytes, the model's {len(b)}"
         if a != b:
             at = next(j for j in range(len(b)) if a[j] != b[j])
             return f", buffer {i} at byte {at}: {a[at:at + 24].hex()}, not {b[at:at + 24].hex()}"
@@ -47,68 +40,82 @@ def shown(args):
 
 
 class Calls:
-    """The library's functions, called with garbage in everything lent and guards around it."""
+    """The functions of a table in a library, called with garbage in everything lent and guards around it."""
 
-    def __init__(self, lib, seed, tally):
-        self.lib, self.tally = lib, tally
+    def __init__(self, lib, seed, tally, rows=FACE, prefix="fermion_"):
+        self.lib, self.tally, self.rows, self.prefix = lib, tally, rows, prefix
         self.rng, self.dirt = random.Random(seed), random.Random(seed + 1)  # for arguments; for garbage
         self.workspace = None  # buffers handed on, uncleaned, from call to call; None for new garbage in each
         self.refusals = {}  # (call, number that is expected): how often
+        self.found = {}
 
-    def to_write(self, length, place):
-        """A guarded buffer lent for writing, full of garbage, or what the last call left in it."""
-        known = {} if self.workspace is None else self.workspace
+    def function(self, name):
+        """A function of the library with its types, or None; and what it takes."""
+        if name not in self.found:
+            function, kinds = getattr(self.lib, self.prefix + name, None), (*self.rows[name].takes, ANSWER)
+            if function is not None:
+                function.argtypes, function.restype = [t for kind in kinds for t in kind.passed], None
+            self.found[name] = function, kinds
+        return self.found[name]
+
+    def guarded(self, kind, data):
+        return face.Lent(self.dirt, data, 0 if kind.words else self.dirt.randrange(8))
+
+    def to_write(self, kind, length, place):
+        """Memory lent for writing, full of garbage, or of what the last call left in it."""
+        known = {} if self.workspace is None or kind == ANSWER else self.workspace
         if (length, place) not in known:
-            known[length, place] = face.Lent(self.dirt, length, self.dirt.randrange(8), garbage(self.dirt, length))
+            known[length, place] = self.guarded(kind, garbage(self.dirt, length))
         return known[length, place]
 
     def to_read(self, kind, arg, known):
-        """A guarded buffer with an argument to read. An argument given twice is the same memory."""
+        """Memory with what is to be read. An argument given twice is the same memory, unless a call may change it."""
+        known = known if kind.role == "read" else {}
         if id(arg) not in known:
-            data = arg if kind == "r" else b"".join(map(records.u64, arg))
-            known[id(arg)] = face.Lent(self.dirt, len(data), self.dirt.randrange(8) if kind == "r" else 0, data)
+            known[id(arg)] = self.guarded(kind, records.words(arg) if kind.words else arg)
         return known[id(arg)]
 
     def call(self, name, *args):
-        """The answer, and whether guards and everything only read were left as they were."""
-        function = getattr(self.lib, f"fermion_{name}", None)
+        """The answer. Whether guards and everything only read were left as they were is compared here, for every call."""
+        function, kinds = self.function(name)
         if function is None:
-            return MISSING, False
-        kinds, known, passed, read, lent = TAKES[name], {}, [], [], []
-        for kind, arg in zip(kinds, args, strict=True):
-            if kind == "u":
+            self.judge_kept(name, args, False)
+            return MISSING
+        assert len(args) == sum(kind.is_given for kind in kinds), f"{name}: other arguments than its row has"
+        given, known, passed, read, left = iter(args), {}, [], [], []
+        for kind in kinds:
+            arg = next(given) if kind.is_given else 8 * kind.entries
+            if kind.role == "number":
                 passed.append(arg)
-            elif kind == "o":
-                lent.append(self.to_write(arg, len(lent)))
-                passed += [lent[-1].pointer(), arg]
+                continue
+            if kind.role == "written":
+                memory, length = self.to_write(kind, arg, len(left)), arg
             else:
-                read.append(self.to_read(kind, arg, known))
-                passed += [read[-1].pointer(), len(arg)]
-        if name in FIXED:
-            lent.append(face.Lent(self.dirt, FIXED[name]))
-            passed.append(lent[-1].pointer())
-        answer = face.Answer(self.dirt)
-        function.argtypes = [t for kind in kinds for t in PASSED[kind]] + [ctypes.c_void_p] * (1 + (name in FIXED))
-        function.restype = None
-        before = [buffer.bytes() for buffer in read]
-        function(*passed, answer.pointer())
-        kept = before == [buffer.bytes() for buffer in read]
-        kept = kept and all(buffer.guards_kept() for buffer in [*read, *lent, answer])
-        return records.Answer(answer.numbers(), tuple(buffer.bytes() for buffer in lent)), kept
+                memory, length = self.to_read(kind, arg, known), len(arg)
+                assert kind.entries in (None, length), f"{name}: an array of another size"
+            passed += [memory.pointer()] + [length] * (kind.entries is None)
+            (read if kind.role == "read" else left).append(memory)
+        function(*passed)
+        kept = all(memory.guards_kept() for memory in (*read, *left)) and all(memory.as_before() for memory in read)
+        self.judge_kept(name, args, kept)
+        *lent, answer = (memory.bytes() for memory in left)
+        return records.Answer(records.numbers_in(answer), tuple(lent))
+
+    def judge_kept(self, name, args, kept):
+        about = "" if kept else f"{self.prefix}{name}({shown(args)})"
+        self.tally.same(f"{name}: guards, and what is only read, left as they were", kept, True, about)
+
+    def expected(self, name, *args):
+        """The model's answer."""
+        return self.rows[name].model(*args)
 
     def judge(self, test, name, *args):
-        """Compares one call with records.py, under the name of a test. Gives the expected answer."""
-        got, kept = self.call(name, *args)
-        expected = getattr(records, name)(*args)
-        self.met(name, expected.numbers[0])
-        about = f"fermion_{name}({shown(args)})" if got != expected or not kept else ""
-        about += first_other(got, expected)
+        """Compares one call with its model, under the name of a test. Gives the expected answer."""
+        got, expected = self.call(name, *args), self.expected(name, *args)
+        self.refusals[name, expected.numbers[0]] = self.refusals.get((name, expected.numbers[0]), 0) + 1
+        about = "" if got == expected else f"{self.prefix}{name}({shown(args)}){first_other(got, expected)}"
         self.tally.same(test, got, expected, about)
-        self.tally.same(f"{name}: guards, and what is only read, left as they were", kept, True, about)
         return expected
-
-    def met(self, name, number):
-        self.refusals[name, number] = self.refusals.get((name, number), 0) + 1
 
     def judge_stored(self, name, got, rust, agrees, about):
         """A stored answer is the Rust's where its line is marked agree, and another where it is marked differs."""
@@ -119,13 +126,19 @@ class Calls:
             self.tally.same(f"{name}: stored answers marked differs are not", differs, True, about)
 
     def print_refusals(self):
-        """How often each refusal was to be met, by records.py, 0 standing for a call that is not refused."""
+        """How often each refusal was to be met, by the models, 0 standing for a call that is not refused."""
         numbers = sorted({number for _, number in self.refusals})
         print("calls by the number that is expected, 0 where not refused:")
         print(f"{'':28}" + "".join(f"{number:8}" for number in numbers))
         for name in dict.fromkeys(name for name, _ in self.refusals):
             row = (self.refusals.get((name, number), 0) for number in numbers)
             print(f"{name:28}" + "".join(f"{n or '-':>8}" for n in row))
+
+    def judge_refusals(self, test, declared):
+        """Of the functions whose rows name this test: every number that the header's order has for it was met, and 0."""
+        for name in (name for name, row in self.rows.items() if row.test == test):
+            met = sorted(number for of, number in self.refusals if of == name)
+            self.tally.same(f"{name}: the header's refusals were all met", met, sorted({0, *declared[name].numbers}), name)
 
 
 def run(seed, checks):
@@ -136,4 +149,5 @@ def run(seed, checks):
     for check in checks:
         check(calls)
     calls.print_refusals()
+    calls.judge_refusals(os.path.basename(sys.argv[0]), header.declared(header.text()))
     calls.tally.close()

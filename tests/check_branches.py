@@ -90,7 +90,7 @@ def check_work(calls):
     """A work of as many rows as are told is enough for the call, and one of a byte less is not."""
     for _ in range(400):
         a, b = drawn_pair(calls.rng)
-        got, _ = calls.call("branches", a, b)
+        got = calls.call("branches", a, b)
         if got.numbers[0] or got.numbers[4] + got.numbers[5] > 300:
             continue
         forward, backward = got.numbers[4:6]

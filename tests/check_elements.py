@@ -8,7 +8,7 @@ import draws
 import face
 import records
 import stored
-from calls import MISSING, run
+from calls import run
 
 SEED = 20261119
 TOP, FULL = 2**63, 2**64 - 1
@@ -23,11 +23,11 @@ def signed(number):
 def check_cases(calls):
     """The elements of case 14's record, and case 15."""
     for word, value in ((1, 1), (2, -1), (3, 0)):
-        got, _ = calls.call("element", records.EXAMPLE, word, word)
+        got = calls.call("element", records.EXAMPLE, word, word)
         expected = records.Answer([0, 0, 0, 0, 0, value % 2**64, 0, 0], ())
         calls.tally.same("case 14: the elements 1, -1, 0", got, expected, word)
     for a, b, equal in ((IDENTITY, NONE, 0), (NONE, IDENTITY, 0), (IDENTITY, IDENTITY, 1), (NONE, NONE, 1)):
-        got, _ = calls.call("compare", a, b)
+        got = calls.call("compare", a, b)
         expected = records.Answer([0, 0, 0, 0, 0, equal, 0, 0], ())
         calls.tally.same("case 15: different at bra 0, ket 0", got, expected, equal)
 
@@ -132,9 +132,9 @@ def check_drawn_comparisons(calls):
         if i % 2:
             pair.reverse()
         calls.judge("compare: records and changed copies", "compare", *pair)
-        got, _ = calls.call("compare", *pair)
-        if got != MISSING and got.numbers[0] == 0 and not got.numbers[5]:
-            elements = [calls.call("element", record, *got.numbers[6:])[0] for record in pair]
+        got = calls.call("compare", *pair)
+        if got.numbers[0] == 0 and not got.numbers[5]:
+            elements = [calls.call("element", record, *got.numbers[6:]) for record in pair]
             calls.tally.same("compare: elements differ at the pair named", elements[0] != elements[1], True, got.numbers)
         if i % 25 == 0:
             calls.judge("compare: a record and itself", "compare", pair[0], pair[0])
@@ -221,8 +221,8 @@ def check_stored_matrices(calls):
             continue
         a, basis = records.encode(int(m), stored.rows(fields[0])), [int(word, 16) for word in fields[1]]
         calls.judge(f"{name}: stored operators", name, a, basis)
-        got, _ = calls.call(name, a, basis)
-        value = None if got == MISSING or got.numbers[0] else got.lent[0]
+        got = calls.call(name, a, basis)
+        value = None if got.numbers[0] else got.lent[0]
         rust, about = placed([int(entry) for entry in answer], len(basis)), f"{m} {fields}"
         calls.judge_stored(name, value, rust, agrees, about)
 

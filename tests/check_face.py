@@ -1,19 +1,10 @@
 #!/usr/bin/env python3
-"""The functions of the C face, called from Python, against the rule worked out ladder by ladder."""
-import ctypes
-import random
-
+"""One term on one word through the C face, against the rule worked out ladder by ladder."""
 import face
 import rule
+from calls import run
 
 SEED = 20261115
-
-
-def apply_answer(cre, ann, ket):
-    outcome = rule.apply_term(cre, ann, ket)
-    if outcome is None:
-        return [0] * 8
-    return [0, 0, 0, 0, 0, 1, outcome[0], int(outcome[1] < 0)]
 
 
 def terms_and_kets(rng):
@@ -28,26 +19,10 @@ def terms_and_kets(rng):
         yield cre, ann, ket
 
 
-def check_apply(lib, tally):
-    rng = random.Random(SEED)
-    call = lib.fermion_apply
-    call.argtypes = [ctypes.c_uint64] * 3 + [ctypes.c_void_p]
-    call.restype = None
-    for cre, ann, ket in terms_and_kets(rng):
-        answer = face.Answer(rng)
-        call(cre, ann, ket, answer.pointer())
-        about = f"{cre:#x} {ann:#x} {ket:#x}"
-        expected = apply_answer(cre, ann, ket)
-        tally.same("fermion_apply, " + ("applied" if expected[5] else "Zero"), answer.numbers(), expected, about)
-        tally.same("guards around the answer", answer.guards_kept(), True, about)
+def check_apply(calls):
+    for words in terms_and_kets(calls.rng):
+        test = "fermion_apply, " + ("applied" if rule.apply_term(*words) else "Zero")
+        calls.judge(test, "apply", *words)
 
 
-def main():
-    lib, kind = face.load()
-    print(f"called from Python: {kind}")
-    tally = face.Tally()
-    check_apply(lib, tally)
-    tally.close()
-
-
-main()
+run(SEED, (check_apply,))

@@ -9,7 +9,7 @@ import draws
 import records
 import rule
 import stored
-from calls import MISSING, run
+from calls import run
 
 SEED = 20261118
 FULL = 2**64 - 1
@@ -23,16 +23,16 @@ LONGEST = 20  # seconds that refusals of huge products may take together
 rule.multiply = functools.lru_cache(1 << 15)(rule.multiply)  # the same pairs come again with other lengths
 
 
-def needed(name, a, b):
+def needed(calls, name, a, b):
     """The bytes of work and of output that a call needs, as far as it is not refused for another reason."""
-    numbers = getattr(records, name)(a, b, PLENTY, ROOM).numbers
+    numbers = calls.expected(name, a, b, PLENTY, ROOM).numbers
     return 24 * numbers[4], numbers[3]
 
 
 def judge(calls, test, name, a, b, *lengths):
     """A call, with lengths for work and output that are right, short or longer unless they are given."""
     if not lengths:
-        work, out = needed(name, a, b)
+        work, out = needed(calls, name, a, b)
         lengths = [max(0, right + calls.rng.choice((0, 0, 0, 0, -1, 1, 24, 500))) for right in (work, out)]
     return calls.judge(test, name, a, b, *lengths)
 
@@ -48,7 +48,7 @@ def check_case_14(calls):
         (95, 80, [7, 0, 0, 0, 0, 0, 0, 0], bytes(80)), (96, 79, [11, 0, 0, 0, 0, 0, 0, 0], bytes(79)),
         (0, 0, [7, 0, 0, 0, 0, 0, 0, 0], b""),
     ]:
-        got, _ = calls.call("commutator", a, b, work, out)
+        got = calls.call("commutator", a, b, work, out)
         expected = records.Answer(numbers, (bytes(work), left))
         calls.tally.same("case 14: the bytes, the branches, the lengths", got, expected, (work, out))
 
@@ -83,7 +83,7 @@ def check_lengths(calls):
     for _ in range(60):
         a, b = drawn_pair(calls.rng)
         for name in CALLS:
-            work, out = needed(name, a, b)
+            work, out = needed(calls, name, a, b)
             if not out:
                 continue  # refused whatever the lengths
             calls.judge("work and output exactly right", name, a, b, work, out)
@@ -327,8 +327,8 @@ def check_stored(calls):
     for (name, m), operators, agrees, answer in stored.lines("products"):
         a, b = (records.encode(int(m), stored.rows(words)) for words in operators)
         judge(calls, f"{name}: stored operators", name, a, b)
-        got, _ = calls.call(name, a, b, WORK, ROOM)
-        rows = None if got == MISSING or got.numbers[0] else records.decode(got.lent[1])[1]
+        got = calls.call(name, a, b, WORK, ROOM)
+        rows = None if got.numbers[0] else records.decode(got.lent[1])[1]
         rust, about = stored.rows(answer), f"{name} {m} {operators}"
         calls.judge_stored(name, rows, rust, agrees, about)
 

@@ -1,7 +1,6 @@
-"""The C face from Python: the shared object, and calls with garbage in every lent buffer and guards around it."""
+"""The C face from Python: the shared object, guarded memory to lend, and comparisons that are counted."""
 import ctypes
 import os
-import random
 import subprocess
 
 ROOT = os.path.dirname(os.path.dirname(os.path.abspath(__file__)))
@@ -18,15 +17,13 @@ def load():
 
 
 class Lent:
-    """Bytes lent for writing: garbage at first, or the bytes given, with guard bytes on both sides. A shift moves the start
-    off its alignment."""
+    """Memory that a call is lent, with guard bytes on both sides. A shift moves the start off its alignment."""
 
-    def __init__(self, rng, length, shift=0, filled=None):
-        self.length = length
-        self.start, self.end = GUARD + shift, GUARD + shift + length
+    def __init__(self, rng, data, shift=0):
+        self.data = data
+        self.start, self.end = GUARD + shift, GUARD + shift + len(data)
         self.guards = rng.randbytes(self.start), rng.randbytes(GUARD)
-        inside = rng.randbytes(length) if filled is None else filled
-        self.whole = ctypes.create_string_buffer(self.guards[0] + inside + self.guards[1], self.end + GUARD)
+        self.whole = ctypes.create_string_buffer(self.guards[0] + data + self.guards[1], self.end + GUARD)
 
     def pointer(self):
         return ctypes.byref(self.whole, self.start)
@@ -34,19 +31,11 @@ class Lent:
     def bytes(self):
         return self.whole.raw[self.start:self.end]
 
+    def as_before(self):
+        return self.bytes() == self.data
+
     def guards_kept(self):
         return (self.whole.raw[:self.start], self.whole.raw[self.end:]) == self.guards
-
-
-class Answer(Lent):
-    """The eight numbers of an answer."""
-
-    def __init__(self, rng):
-        super().__init__(rng, 64)
-
-    def numbers(self):
-        raw = self.bytes()
-        return [int.from_bytes(raw[8 * i:8 * i + 8], "little") for i in range(8)]
 
 
 def word(rng, m, density):

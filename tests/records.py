@@ -4,8 +4,8 @@
 Nothing here comes from zixy or from the library: both are compared with it. Products are brought into order
 ladder by ladder (rule.py). A row is (ann, cre, coefficient), as in the record: annihilations first.
 
-A function has the name of the call it answers for, and gives an Answer: the eight numbers, and the final
-bytes of everything that the call was lent for writing, in the order of include/fermion.h.
+A model has the name of the function that it answers for (functions.py), and gives an Answer: the eight numbers, and the
+bytes, after the call, of everything that is lent for writing or changing, in the order of include/fermion.h.
 
     python3 tests/records.py     checks this file against itself and the specification's examples
 """
@@ -39,20 +39,30 @@ def u64(number):
     return (number % 2**64).to_bytes(8, "little")
 
 
+def words(numbers):
+    """The bytes of words or signed numbers, one after the other."""
+    return b"".join(map(u64, numbers))
+
+
+def numbers_in(data):
+    """The words that stand in bytes."""
+    return list(struct.unpack(f"<{len(data) // 8}Q", data))
+
+
 def header(m, n):
     return struct.pack("<8I", 1, m, n, HEADER, HEADER + 8 * n, HEADER + 16 * n, HEADER + ROW * n, 0)
 
 
 def encode(m, rows):
     """The record of these rows as they stand: nothing is checked, sorted or joined."""
-    return header(m, len(rows)) + b"".join(u64(row[column]) for column in range(3) for row in rows)
+    return header(m, len(rows)) + words(row[column] for column in range(3) for row in rows)
 
 
 def decode(record):
     """The mode count and the rows of a record whose header is right."""
     m, n = struct.unpack_from("<2I", record, 4)
-    words = struct.unpack_from(f"<{2 * n}Q{n}q", record, HEADER)
-    return m, list(zip(words[:n], words[n:2 * n], words[2 * n:]))
+    columns = struct.unpack_from(f"<{2 * n}Q{n}q", record, HEADER)
+    return m, list(zip(columns[:n], columns[n:2 * n], columns[2 * n:]))
 
 
 def header_is_right(record):
@@ -136,7 +146,12 @@ def of_one(record, value):
     return refused(fault) if fault else given(value(*decode(record)))
 
 
-# One product
+# One term, one product
+
+
+def apply(cre, ann, ket):
+    outcome = rule.apply_term(cre, ann, ket)
+    return given(1, outcome[0], outcome[1] < 0) if outcome else given()
 
 
 def row_count(left, right):
@@ -150,7 +165,7 @@ def mul_cmpnts(l_cre, l_ann, r_cre, r_ann, out_len):
     if ROW * count > out_len:
         return refused((7, 0, 0), out_len)
     rows = rule.mul_cmpnts(left, right) if count else []
-    return written(b"".join(map(u64, itertools.chain(*rows))), out_len, count)
+    return written(words(itertools.chain(*rows)), out_len, count)
 
 
 # Calls that read records
@@ -335,7 +350,7 @@ def mat_ortho_projected(a, basis):
     for i, bra in enumerate(basis):
         for j, ket in enumerate(basis):
             matrix[MAX_BASIS * i + j] = element_of(decode(a)[1], bra, ket)
-    return given(lent=(b"".join(map(u64, matrix)),))
+    return given(lent=(words(matrix),))
 
 
 def compare(a, b):
