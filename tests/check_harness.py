@@ -161,13 +161,23 @@ def check_table(tally):
         tally.same("the test of every row is one that the gate runs", runs, True, name)
 
 
-def check_from_c(tally):
-    """Every function of the header is called from C too: on examples and drawn inputs, and on its own stack."""
+def texts(*path):
+    """{name: text} of files in this folder."""
+    found = {}
+    for name in glob.glob(os.path.join(HERE, *path)):
+        with open(name, encoding="utf-8") as file:
+            found[os.path.basename(name)] = file.read()
+    return found
+
+
+def check_ways(tally):
+    """No test loads the library but by calls.py; and every function is called from C too, on inputs and on its own stack."""
+    python = texts("*.py")
+    for what, places in (("CDLL(", ["check_harness.py", "face.py"]), ("face.load(", ["calls.py", "check_harness.py"])):
+        found = sorted(name for name, text in python.items() if what in text)
+        tally.same("from Python there is one way to call", found, places, what)
     for folder in ("c", "c_stack"):
-        code = ""
-        for path in glob.glob(os.path.join(HERE, folder, "*.c")):
-            with open(path, encoding="utf-8") as file:
-                code += file.read()
+        code = "".join(texts(folder, "*.c").values())
         missing = [name for name in FACE if f"fermion_{name}(" not in code and f"fermion_{name}," not in code]
         tally.same(f"tests/{folder} calls every function", missing, [], folder)
 
@@ -179,7 +189,7 @@ def main():
         for check in (check_right, check_faults, check_model, check_refusals):
             check(trials)
     check_table(tally)
-    check_from_c(tally)
+    check_ways(tally)
     tally.close()
 
 

@@ -114,9 +114,9 @@ def joined(rows):
 # Answers
 
 
-def refused(fault, *lengths):
-    """A refusal: its three numbers, all else 0, and nothing but zeros in what was lent."""
-    return Answer([*fault, 0, 0, 0, 0, 0], tuple(bytes(length) for length in lengths))
+def refused(fault, *lent):
+    """A refusal: its three numbers, all else 0. Of what was lent, a length for zeros, or the bytes that stay as they were."""
+    return Answer([*fault, 0, 0, 0, 0, 0], tuple(map(bytes, lent)))
 
 
 def given(*values, length=0, count=0, lent=()):
