@@ -6,35 +6,15 @@ enum { NUMBERS = 15, OPERANDS = 5 };
 #define N(number) (1u << (number))
 #define RECORD (N(1) | N(2) | N(3) | N(4) | N(5))
 #define RESULT (N(6) | N(9) | N(10) | N(11))
-#define ONE {N(0), RECORD}
-#define LISTS {N(0), N(1) | N(2) | N(13), 0, N(12), N(12)}
+#define ONE N(0), RECORD
+#define LISTS N(0), N(1) | N(2) | N(13), 0, N(12), N(12)
+#define FUNCTION(id, name, either, ...) [id] = {#name, {__VA_ARGS__}, either},
 
-/* by operand, the numbers that the specification's order of refusals leaves for a function; 0 is no refusal */
 static const struct {
     const char *name;
-    unsigned can[OPERANDS];
-    bool yes_or_no; /* [5] may be 0 or not: Zero or applied, no or yes, nothing or something */
-} face[FUNCTIONS] = {
-    [APPLY] = {"fermion_apply", {N(0)}, true},
-    [MUL_CMPNTS] = {"fermion_mul_cmpnts", {N(0) | N(7)}, false},
-    [CHECK] = {"fermion_check", ONE, false},
-    [ADD] = {"fermion_add", {N(0) | RESULT, RECORD, RECORD}, false},
-    [SUB] = {"fermion_sub", {N(0) | RESULT, RECORD, RECORD}, false},
-    [MUL] = {"fermion_mul", {N(0) | RESULT | N(7) | N(8), RECORD, RECORD}, false},
-    [COMMUTATOR] = {"fermion_commutator", {N(0) | RESULT | N(7) | N(8), RECORD, RECORD}, false},
-    [ANTICOMMUTATOR] = {"fermion_anticommutator", {N(0) | RESULT | N(7) | N(8), RECORD, RECORD}, false},
-    [ADJOINT] = {"fermion_adjoint", {N(0) | N(11), RECORD}, false},
-    [IS_HERMITIAN] = {"fermion_is_hermitian", ONE, true},
-    [CONSERVES] = {"fermion_conserves_particle_number", ONE, true},
-    [MAX_N_BODY] = {"fermion_max_n_body", ONE, true},
-    [ACTIVE_MODES] = {"fermion_active_modes", ONE, true},
-    [BLOCK] = {"fermion_block", {N(0)}, true},
-    [ELEMENT] = {"fermion_element", {N(0), RECORD, 0, N(12), N(12)}, true},
-    [MATRIX] = {"fermion_mat_ortho_projected", {N(0), RECORD, 0, N(12) | N(14)}, false},
-    [COMPARE] = {"fermion_compare", {N(0) | N(6), RECORD, RECORD}, true},
-    [MAT_ELEM_REAL] = {"fermion_mat_elem_real", LISTS, false},
-    [MAT_ELEM_COMPLEX] = {"fermion_mat_elem_complex", LISTS, false},
-};
+    unsigned can[OPERANDS]; /* by operand, the numbers that can occur; 0 is no refusal */
+    bool yes_or_no;         /* [5] may be 0 or not: Zero or applied, no or yes, nothing or something */
+} face[FUNCTIONS] = {FACE(FUNCTION)};
 
 static struct {
     long compared, differ, met[OPERANDS][NUMBERS], value[2]; /* answers not refused whose [5] is 0, and others */

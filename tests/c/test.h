@@ -56,12 +56,32 @@ void must_hold(struct lent *l, const void *bytes, size_t len);
 bool holds(const struct lent *l);
 bool hold_two(const struct lent l[2]);
 
-/* tally.c: one row for each function of fermion.h, in its order */
+/* tally.c: one row for each function of fermion.h that is drawn for, in its order, and nowhere else: its name; whether [5] may
+ * be 0 or not where it is not refused; and by operand the numbers that the specification's order of refusals leaves for it */
 
-enum face {
-    APPLY, MUL_CMPNTS, CHECK, ADD, SUB, MUL, COMMUTATOR, ANTICOMMUTATOR, ADJOINT, IS_HERMITIAN, CONSERVES, MAX_N_BODY,
-    ACTIVE_MODES, BLOCK, ELEMENT, MATRIX, COMPARE, MAT_ELEM_REAL, MAT_ELEM_COMPLEX, FUNCTIONS
-};
+#define FACE(F) \
+    F(APPLY, fermion_apply, true, N(0)) \
+    F(MUL_CMPNTS, fermion_mul_cmpnts, false, N(0) | N(7)) \
+    F(CHECK, fermion_check, false, ONE) \
+    F(ADD, fermion_add, false, N(0) | RESULT, RECORD, RECORD) \
+    F(SUB, fermion_sub, false, N(0) | RESULT, RECORD, RECORD) \
+    F(MUL, fermion_mul, false, N(0) | RESULT | N(7) | N(8), RECORD, RECORD) \
+    F(COMMUTATOR, fermion_commutator, false, N(0) | RESULT | N(7) | N(8), RECORD, RECORD) \
+    F(ANTICOMMUTATOR, fermion_anticommutator, false, N(0) | RESULT | N(7) | N(8), RECORD, RECORD) \
+    F(ADJOINT, fermion_adjoint, false, N(0) | N(11), RECORD) \
+    F(IS_HERMITIAN, fermion_is_hermitian, true, ONE) \
+    F(CONSERVES, fermion_conserves_particle_number, true, ONE) \
+    F(MAX_N_BODY, fermion_max_n_body, true, ONE) \
+    F(ACTIVE_MODES, fermion_active_modes, true, ONE) \
+    F(BLOCK, fermion_block, true, N(0)) \
+    F(ELEMENT, fermion_element, true, N(0), RECORD, 0, N(12), N(12)) \
+    F(MATRIX, fermion_mat_ortho_projected, false, N(0), RECORD, 0, N(12) | N(14)) \
+    F(COMPARE, fermion_compare, true, N(0) | N(6), RECORD, RECORD) \
+    F(MAT_ELEM_REAL, fermion_mat_elem_real, false, LISTS) \
+    F(MAT_ELEM_COMPLEX, fermion_mat_elem_complex, false, LISTS)
+
+#define ID(id, ...) id,
+enum face { FACE(ID) FUNCTIONS };
 
 uint64_t *lend_answer(void);
 void judge(enum face f, const struct answer *right, bool rest_is_right);
