@@ -90,6 +90,8 @@ def check_right(trials):
         trials.judge("a call without a fault is accepted", arguments(rng, i % 2), [])
         a, _, *rest = arguments(rng)
         trials.judge("an argument given twice is the same memory", [a, a, *rest], [])
+        a, b, words, report, _, out_len = arguments(rng, 2)
+        trials.judge("memory that is changed is not shared", [a, b, words, report, a, out_len], [])
     trials.calls.workspace = {}
     for _ in range(50):
         trials.judge("memory handed on as it was left is accepted", [*arguments(rng)[:5], 80], [])
