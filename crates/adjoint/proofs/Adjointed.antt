@@ -1,9 +1,13 @@
 -- The three ways out of `adjoint`: the record's refusal, no room, and the adjoint's record.
-use mathlib.Core.Path.{_≡_, refl, ap}
+use mathlib.Core.Path.{_≡_, refl, sym, ap, _∙_}
 use mathlib.Core.List.{List}
 use Prim.Native.Nat.{ℕ, _≤_, _<_}
 use native.Mathlib.Omega.{arith}
 use borrow.Author.Tests.{le-leb, lt-leb}
+use lib.ListN.{length}
+use Rattle.record.proofs.Reading.{length-terms}
+use Rattle.adjoint.proofs.Terms.{length-adjoint}
+use Rattle.record.specs.Operands.{readAs}
 use Rattle.modes.specs.Answers.{none, outputTooShort}
 use Rattle.lent.specs.Outputs.{refusedOutput, filledOutput}
 use Rattle.record.specs.Layout.{encode, modesOf, countOf, termsIn, termsOf, recordLength}
@@ -15,7 +19,7 @@ use Rattle.record.proofs.Accepted.{Accepted, refusal-told, refused}
 use Rattle.record.proofs.Outputs.{refused-earlier, refused-late, delivers}
 use Rattle.adjoint.specs.Adjoint.{adjointTerms, adjointed}
 
-pub adjointed-refused : (room : ℕ) (l : List ℕ) (c : Checked) → c ≡ checkedOf 1 l → (c .refusal .number ≡ 0 → ⊥) → refusedOutput room (c .refusal) ≡ adjointed room l
+pub adjointed-refused : (room : ℕ) (l : List ℕ) (c : Checked) → c ≡ checkedOf 1 l → (c .refusal .number ≡ 0 → ⊥) → refusedOutput room (c .refusal) ≡ adjointed room (readAs 1 l)
 adjointed-refused room l c e h =
     rw (refusal-told 1 l c e) (refused-earlier room 0 (refusalOf 1 l) _ (modesOf l) (adjointTerms (termsOf l)) (refused 1 l c e h))
 
@@ -32,12 +36,15 @@ module _ (room : ℕ) (l : List ℕ) (c : Checked) (k : Accepted 1 l c) where
   pub few : c .terms ≤ 2048
   few = omega (arith, k .laid .few, count-is)
 
-  pub adjointed-short : room < recordLength (c .terms) → refusedOutput room outputTooShort ≡ adjointed room l
+  length-is : c .terms ≡ length (adjointTerms (termsOf l))
+  length-is = count-is ∙ sym (length-adjoint (modesOf l) (termsOf l) (k .canonical) ∙ length-terms l (countOf l))
+
+  pub adjointed-short : room < recordLength (c .terms) → refusedOutput room outputTooShort ≡ adjointed room (readAs 1 l)
   adjointed-short h =
-      let short : outputTooShort ≡ roomRefusal room (countOf l) = rw (lt-leb _ _ (rw count-is at h)) in
+      let short : outputTooShort ≡ roomRefusal room (length (adjointTerms (termsOf l))) = rw (lt-leb _ _ (rw length-is at h)) in
       refused-late room 0 (refusalOf 1 l) _ (modesOf l) (adjointTerms (termsOf l)) (k .none) outputTooShort short (λ e. absurd (omega arith))
 
-  pub adjointed-filled : recordLength (c .terms) ≤ room → filledOutput room 0 (encode (c .modes) (adjointTerms (termsIn l (c .terms)))) ≡ adjointed room l
+  pub adjointed-filled : recordLength (c .terms) ≤ room → filledOutput room 0 (encode (c .modes) (adjointTerms (termsIn l (c .terms)))) ≡ adjointed room (readAs 1 l)
   adjointed-filled h =
-      let long : none ≡ roomRefusal room (countOf l) = rw (le-leb _ _ (rw count-is at h)) in
+      let long : none ≡ roomRefusal room (length (adjointTerms (termsOf l))) = rw (le-leb _ _ (rw length-is at h)) in
       rw (k .terms, modes-are) (delivers room 0 (refusalOf 1 l) _ (modesOf l) (adjointTerms (termsOf l)) (k .none) none long refl)

@@ -23,7 +23,6 @@ use Rattle.products.specs.declared.ApplyResult.the-variants.{Applied}
 use Rattle.products.proofs.Applying.{swapped-restores}
 use Rattle.normal.proofs.Totals.{element-normal}
 use Rattle.adjoint.specs.Adjoint.{oddPairs, adjointTerm, adjointTerms}
-use Rattle.adjoint.proofs.Terms.{sum-same}
 
 -- ---- the swapped term restores the ket
 

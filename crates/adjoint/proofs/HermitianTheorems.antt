@@ -1,10 +1,13 @@
 -- What the Hermitian test says of a record that it accepts: the adjoint's bytes are its own, and its elements at (bra, ket) and (ket, bra) agree.
-use mathlib.Core.Path.{_≡_, sym, ap, _∙_}
+use mathlib.Core.Path.{_≡_, sym, ap, _∙_, refl}
 use mathlib.Core.Bool.{Bool, true, _&&_}
 use mathlib.Core.List.{List}
 use Prim.Native.Nat.{ℕ, _^_, _<_}
 use lib.ListN.{take}
 use borrow.Author.Tests.{eq-eqb}
+use Rattle.modes.proofs.Refusals.{not-refused}
+use Rattle.modes.specs.Answers.{none}
+use Rattle.record.specs.Operands.{readAs}
 use Rattle.modes.specs.declared.Written.{Written}
 use Rattle.lent.specs.Outputs.{Gives}
 use Rattle.products.specs.Operators.{element}
@@ -18,19 +21,20 @@ use Rattle.record.proofs.Accepted.{accepted-canonical}
 use Rattle.record.proofs.Inverse.{Small, canonical-fit, encode-decode}
 use Rattle.record.proofs.SameElements.{same-elements}
 use Rattle.adjoint.specs.Adjoint.{adjointTerms, adjointBytes, adjointed}
-use Rattle.adjoint.specs.Hermitian.{hermitianOf}
+use Rattle.adjoint.specs.Hermitian.{hermitianOf, notTested}
 use Rattle.adjoint.proofs.Terms.{canonical-adjoint}
 use Rattle.adjoint.proofs.Elements.{element-adjoint}
 use Rattle.adjoint.proofs.Theorems.{bytes-terms, left-by}
 
 module _ (l : List ℕ) (r : Tested) (e : r ≡ hermitianOf l) (ok : r .refusal .number ≡ 0) where
+  found : ((refusalOf 1 l) .number ≡ 0) × (r ≡ record { refusal = none; holds = sameNumbers (adjointBytes l) l })
+  found = not-refused (refusalOf 1 l) notTested _ (λ t. t .refusal) refl r e ok
+
   fine : (refusalOf 1 l) .number ≡ 0
-  unfolding hermitianOf
-  fine = ap (λ (t : Tested). t .refusal .number) (sym e) ∙ ok
+  fine = found .0
 
   answer : r .holds ≡ sameNumbers (adjointBytes l) l
-  unfolding hermitianOf
-  answer = ap (λ (t : Tested). t .holds) e ∙ ap (λ (b : Bool). b && sameNumbers (adjointBytes l) l) (eq-eqb _ 0 fine)
+  answer = ap (λ (t : Tested). t .holds) (found .1)
 
   form : Canonical (modesOf l) (termsOf l)
   form = accepted-canonical 1 l fine
@@ -46,7 +50,7 @@ module _ (l : List ℕ) (r : Tested) (e : r ≡ hermitianOf l) (ok : r .refusal 
   bytes-hold h = answer ∙ rw h (numbers-same l)
 
   -- those that `adjoint` leaves
-  module _ (room : ℕ) (after : List ℕ) (w : Written) (g : Gives (adjointed room l) w after) (done : w .refusal .number ≡ 0) where
+  module _ (room : ℕ) (after : List ℕ) (w : Written) (g : Gives (adjointed room (readAs 1 l)) w after) (done : w .refusal .number ≡ 0) where
     pub hermitian-left : r .holds ≡ true → take (w .len) after ≡ l
     hermitian-left h = left-by room l after w g done .bytes ∙ holds-bytes h
 

@@ -9,7 +9,7 @@ use lib.ListN.{length, length-map}
 use Rattle.modes.specs.declared.Term.{Term}
 use Rattle.modes.specs.Counts.{parity, pairs}
 use Rattle.modes.specs.Every.{Every, none, more}
-use Rattle.modes.proofs.Every.{sum-same, every-map}
+use Rattle.modes.proofs.Every.{every-map}
 use lib.Dec.{eqb}
 use borrow.Author.Tests.{eqb-true}
 use Rattle.lent.proofs.RowLaws.{term-of}
@@ -112,11 +112,6 @@ length-adjoint m ts k =
     let us = map adjointTerm ts in
     let vs = map adjointTerm (adjointTerms ts) in
     omega (arith, length-normal us, length-map ts adjointTerm, length-normal vs, length-map (adjointTerms ts) adjointTerm, ap length (terms-twice m ts k))
-
-pub sum-same : (v w : Term → ℤ) (ts : List Term) → Every (λ t. v t ≡ w t) ts → sumOf v ts ≡ sumOf w ts
-unfolding sumOf
-sum-same v w [] none = refl
-sum-same v w (t ∷ ts) (more h hs) = ap (λ (z : ℤ). z +ℤ sumOf v ts) h ∙ ap (λ (z : ℤ). w t +ℤ z) (sum-same v w ts hs)
 
 -- ---- what can be negated
 

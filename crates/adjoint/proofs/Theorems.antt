@@ -3,6 +3,7 @@ use mathlib.Core.Path.{_≡_, ap, ap₂, _∙_}
 use mathlib.Core.List.{List}
 use Prim.Native.Nat.{ℕ}
 use lib.ListN.{take}
+use Rattle.record.specs.Operands.{readAs}
 use Rattle.modes.specs.declared.Written.{Written}
 use Rattle.modes.specs.Answers.{none}
 use Rattle.lent.specs.Outputs.{Gives}
@@ -45,14 +46,14 @@ pub record Left (l after : List ℕ) (r : Written) : Type 0 where
   pub fine : (refusalOf 1 l) .number ≡ 0
   pub bytes : take (r .len) after ≡ adjointBytes l
 
-pub left-by : (room : ℕ) (l after : List ℕ) (r : Written) → Gives (adjointed room l) r after → r .refusal .number ≡ 0 → Left l after r
+pub left-by : (room : ℕ) (l after : List ℕ) (r : Written) → Gives (adjointed room (readAs 1 l)) r after → r .refusal .number ≡ 0 → Left l after r
 left-by room l after r g e =
     record {
-      fine = none-refused room 0 (refusalOf 1 l) (roomRefusal room (countOf l)) (modesOf l) (adjointTerms (termsOf l)) r after g e .0;
-      bytes = output-record room 0 (refusalOf 1 l) (roomRefusal room (countOf l)) (modesOf l) (adjointTerms (termsOf l)) r after g e;
+      fine = none-refused room 0 (refusalOf 1 l) _ (modesOf l) (adjointTerms (termsOf l)) r after g e .0;
+      bytes = output-record room 0 (refusalOf 1 l) _ (modesOf l) (adjointTerms (termsOf l)) r after g e;
     }
 
-module _ (room : ℕ) (l after : List ℕ) (r : Written) (g : Gives (adjointed room l) r after) (e : r .refusal .number ≡ 0) where
+module _ (room : ℕ) (l after : List ℕ) (r : Written) (g : Gives (adjointed room (readAs 1 l)) r after) (e : r .refusal .number ≡ 0) where
   left : Left l after r
   left = left-by room l after r g e
 
@@ -70,7 +71,7 @@ module _ (room : ℕ) (l after : List ℕ) (r : Written) (g : Gives (adjointed r
       ∙ element-adjoint bra ket (termsOf l) (canonical-fit (modesOf l) (termsOf l) (accepted-canonical 1 l (left .fine)))
 
   -- the adjoint of what it leaves is the record
-  pub adjoint-restores : (room′ : ℕ) (after′ : List ℕ) (r′ : Written) → Small l → Gives (adjointed room′ (take (r .len) after)) r′ after′ → r′ .refusal .number ≡ 0
+  pub adjoint-restores : (room′ : ℕ) (after′ : List ℕ) (r′ : Written) → Small l → Gives (adjointed room′ (readAs 1 (take (r .len) after))) r′ after′ → r′ .refusal .number ≡ 0
       → take (r′ .len) after′ ≡ l
   adjoint-restores room′ after′ r′ small g′ e′ =
       left-by room′ (take (r .len) after) after′ r′ g′ e′ .bytes ∙ ap adjointBytes (left .bytes) ∙ bytes-twice l (left .fine) small

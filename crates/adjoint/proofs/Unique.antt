@@ -2,6 +2,7 @@
 use mathlib.Core.Path.{_≡_, sym, _∙_}
 use mathlib.Core.List.{List}
 use Prim.Native.Nat.{ℕ}
+use Rattle.record.specs.Operands.{readAs}
 use Rattle.modes.specs.declared.Written.{Written}
 use Rattle.lent.specs.Outputs.{Gives}
 use Rattle.lent.proofs.Outputs.{gives-one}
@@ -9,7 +10,7 @@ use Rattle.record.specs.declared.Tested.{Tested}
 use Rattle.adjoint.specs.Adjoint.{adjointed}
 use Rattle.adjoint.specs.Hermitian.{hermitianOf}
 
-pub one-adjoint : (room : ℕ) (l : List ℕ) (r r′ : Written) (after after′ : List ℕ) → Gives (adjointed room l) r after → Gives (adjointed room l) r′ after′
+pub one-adjoint : (room : ℕ) (l : List ℕ) (r r′ : Written) (after after′ : List ℕ) → Gives (adjointed room (readAs 1 l)) r after → Gives (adjointed room (readAs 1 l)) r′ after′
     → (r ≡ r′) × (after ≡ after′)
 one-adjoint room l r r′ after after′ = gives-one
 

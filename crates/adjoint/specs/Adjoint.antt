@@ -3,6 +3,8 @@ use mathlib.Core.Bool.{Bool}
 use mathlib.Core.List.{List, map}
 use Prim.Native.Nat.{ℕ, _+_, _^_, _<_}
 use lib.IntN.{natAbs}
+use lib.ListN.{length}
+use Rattle.record.specs.Operands.{Operand}
 use Rattle.modes.specs.declared.Term.{Term}
 use Rattle.modes.specs.Counts.{parity, pairs}
 use Rattle.lent.specs.Outputs.{Output}
@@ -35,5 +37,6 @@ abbrev pub adjointBytes : List ℕ → List ℕ
 adjointBytes l = encode (modesOf l) (adjointTerms (termsOf l))
 
 -- what `adjoint` answers for an output of `room` bytes, and the whole output at its end: the record's refusals, then 11, then the adjoint's record
-abbrev pub adjointed : ℕ → List ℕ → Output
-adjointed room l = recordOutput room 0 (orElse (refusalOf 1 l) (roomRefusal room (countOf l))) (modesOf l) (adjointTerms (termsOf l))
+abbrev pub adjointed : ℕ → Operand → Output
+adjointed room a =
+    let ts = adjointTerms (a .terms) in recordOutput room 0 (orElse (a .refusal) (roomRefusal room (length ts))) (a .modes) ts

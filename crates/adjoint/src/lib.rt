@@ -8,6 +8,7 @@ ghost use mathlib.Core.Path.{_≡_};
 ghost use mathlib.Core.List.{map};
 ghost use Prim.Native.Nat.{_≤_};
 ghost use lib.ListN.{length};
+ghost use Rattle.record.specs.Operands.{readAs};
 ghost use Rattle.modes.specs.Words.{bit};
 ghost use Rattle.modes.specs.Counts.{count, pairs};
 ghost use Rattle.modes.specs.Every.{Every};
@@ -70,7 +71,7 @@ fn write_adjoint(a: &[u8], m: u64, n: usize, out: &mut [u8]) -> Written
 
 // The adjoint of a record, as a record.
 pub fn adjoint(a: &[u8], out: &mut [u8]) -> Written
-    ensures { λ r. ⌜ Gives (adjointed (length (now (out .entry))) (now (a .entry))) r (now (out .exit)) ⌝ }
+    ensures { λ r. ⌜ Gives (adjointed (length (now (out .entry))) (readAs 1 (now (a .entry)))) r (now (out .exit)) ⌝ }
 {
     let c = record::check(a, 1);
     if c.refusal.number != 0 {

@@ -12,20 +12,14 @@ use Rattle.multiply.specs.Answers.{workRefusal}
 use Rattle.branches.specs.Branches.{counted, uncounted, branchesIn, branchesRefusal, branchesTold}
 use Rattle.branches.specs.declared.BranchCounts.{BranchCounts}
 
-module _ (a b : List ℕ) (r : BranchCounts) (er : r ≡ branchesTold a b) (z : r .refusal .number ≡ 0) where
-  is : r ≡ counted (branchesIn a b) (branchesIn b a)
-  unfolding branchesTold
-  is = go (eqb ((branchesRefusal a b) .number) 0) refl er
-    where
-      go : (s : Bool) → eqb ((branchesRefusal a b) .number) 0 ≡ s
-          → r ≡ cond s (counted (branchesIn a b) (branchesIn b a)) (uncounted (branchesRefusal a b)) → r ≡ counted (branchesIn a b) (branchesIn b a)
-      go true q e = e
-      go false q e = absurd (eqb-false _ _ q (ap (λ (x : BranchCounts). x .refusal .number) (sym e) ∙ z))
+module _ (a b : List ℕ) (r : BranchCounts) (er : r ≡ branchesTold (readAs 1 a) (readAs 2 b)) (z : r .refusal .number ≡ 0) where
+  is : r ≡ counted (branchesIn (readAs 1 a) (readAs 2 b)) (branchesIn (readAs 2 b) (readAs 1 a))
+  is = not-refused (branchesRefusal (readAs 1 a) (readAs 2 b)) uncounted _ (λ c. c .refusal) refl r er z .1
 
   -- 7 refuses the product of a and b as if its branches were those told, whatever the work
   pub mul-work : (work : ℕ) → workRefusal work (allBranches false (termsOf a) (termsOf b)) ≡ workRefusal work (r .forward)
   unfolding allBranches
-  mul-work work = ap (workRefusal work) (add-zero (branchesIn a b) ∙ sym (ap (λ (x : BranchCounts). x .forward) is))
+  mul-work work = ap (workRefusal work) (add-zero (branchesIn (readAs 1 a) (readAs 2 b)) ∙ sym (ap (λ (x : BranchCounts). x .forward) is))
 
   -- and the commutator and the anticommutator as if theirs were the sum of the two
   pub both-work : (work : ℕ) → workRefusal work (allBranches true (termsOf a) (termsOf b)) ≡ workRefusal work (r .forward + r .backward)

@@ -6,5 +6,5 @@ use Rattle.modes.proofs.Unique.{one}
 use Rattle.branches.specs.Branches.{branchesTold}
 use Rattle.branches.specs.declared.BranchCounts.{BranchCounts}
 
-pub one-counting : (a b : List ℕ) (r s : BranchCounts) → r ≡ branchesTold a b → s ≡ branchesTold a b → r ≡ s
+pub one-counting : (a b : List ℕ) (r s : BranchCounts) → r ≡ branchesTold (readAs 1 a) (readAs 2 b) → s ≡ branchesTold (readAs 1 a) (readAs 2 b) → r ≡ s
 one-counting a b r s = one

@@ -5,9 +5,9 @@ use Prim.Native.Nat.{ℕ, _+_, _^_}
 use lib.Dec.{eqb}
 use Rattle.modes.specs.declared.Refusal.{Refusal}
 use Rattle.modes.specs.Answers.{none}
-use Rattle.record.specs.Layout.{termsOf}
-use Rattle.modes.specs.Refusals.{orElse}
-use Rattle.lincomb.specs.Results.{pairRefusal}
+use Rattle.record.specs.Operands.{Operand}
+use Rattle.modes.specs.Refusals.{orElse, unless}
+use Rattle.results.specs.Results.{operandsRefusal}
 use Rattle.pairs.specs.Products.{branchesOfAll}
 use Rattle.multiply.specs.Answers.{workRefusal}
 use Rattle.branches.specs.declared.BranchCounts.{BranchCounts}
@@ -20,12 +20,12 @@ abbrev pub uncounted : Refusal → BranchCounts
 uncounted r = record { refusal = r; forward = 0; backward = 0 }
 
 -- one order alone: the branches of the product of the first record and the second
-abbrev pub branchesIn : List ℕ → List ℕ → ℕ
-branchesIn a b = branchesOfAll (termsOf a) (termsOf b)
+abbrev pub branchesIn : Operand → Operand → ℕ
+branchesIn a b = branchesOfAll (a .terms) (b .terms)
 
 -- both records and 6; then 7, if no work of up to 2^63 bytes would hold a row for each branch of both orders
-unfoldable pub branchesRefusal : List ℕ → List ℕ → Refusal
-branchesRefusal a b = orElse (pairRefusal a b) (workRefusal (2 ^ 63) (branchesIn a b + branchesIn b a))
+abbrev pub branchesRefusal : Operand → Operand → Refusal
+branchesRefusal a b = orElse (operandsRefusal a b) (workRefusal (2 ^ 63) (branchesIn a b + branchesIn b a))
 
-unfoldable pub branchesTold : List ℕ → List ℕ → BranchCounts
-branchesTold a b = cond (eqb ((branchesRefusal a b) .number) 0) (counted (branchesIn a b) (branchesIn b a)) (uncounted (branchesRefusal a b))
+abbrev pub branchesTold : Operand → Operand → BranchCounts
+branchesTold a b = unless (branchesRefusal a b) uncounted (counted (branchesIn a b) (branchesIn b a))

@@ -95,9 +95,9 @@ fn of_all(a: &[u8], na: usize, b: &[u8], nb: usize) -> u64
 
 // The branches of the product a b and of the product b a. Nothing is lent: the pairs of terms are only looked at.
 pub fn branches(a: &[u8], b: &[u8]) -> BranchCounts
-    ensures { λ r. ⌜ r ≡ branchesTold (now (a .entry)) (now (b .entry)) ⌝ }
+    ensures { λ r. ⌜ r ≡ branchesTold (readAs 1 (now (a .entry))) (readAs 2 (now (b .entry))) ⌝ }
 {
-    let p = lincomb::open_pair(a, b);
+    let p = results::open_operands(a, b);
     if p.refusal.number != 0 {
         let refusal = p.refusal;
         return BranchCounts::refused(refusal);

@@ -7,6 +7,7 @@ use Prim.Native.Nat.{ℕ, _^_, _≤_, _<_}
 use native.Mathlib.Omega.{arith}
 use lib.Dec.{eqb}
 use borrow.Author.Tests.{eq-eqb, eqb-true, eqb-false}
+use Rattle.record.specs.Operands.{readAs}
 use Rattle.modes.specs.Answers.{none}
 use Rattle.modes.specs.declared.Term.{Term}
 use Rattle.modes.specs.Words.{bit}
@@ -17,14 +18,15 @@ use Rattle.record.specs.Layout.{modesOf, termsOf}
 use Rattle.record.specs.Refusals.{refusalOf}
 use Rattle.record.specs.Coefficients.{coeffOf}
 use Rattle.record.specs.Canonical.{Canonical}
-use Rattle.modes.proofs.Refusals.{or-second}
+use Rattle.modes.proofs.Refusals.{or-second, unless-not}
 use Rattle.record.proofs.Accepted.{accepted-canonical, accepted-none}
 use Rattle.record.proofs.Inverse.{Small, same-bytes}
 use Rattle.record.proofs.Coefficients.{same-terms}
 use Rattle.record.proofs.SameElements.{none-outside, same-coefficient}
 use Rattle.normal.proofs.Words.{same-or-not}
-use Rattle.lincomb.specs.Results.{pairRefusal}
-use Rattle.lincomb.proofs.Results.{first-fine, second-fine, same-modes}
+use Rattle.modes.proofs.Refusals.{not-refused as answered}
+use Rattle.results.specs.Results.{operandsRefusal}
+use Rattle.results.proofs.Results.{first-fine, second-fine, same-modes}
 use Rattle.compare.specs.Comparison.{differing, named, refusedComparison, comparedOf}
 use Rattle.compare.specs.declared.Compared.{Compared}
 use Rattle.compare.proofs.Naming.{Lists, none-named, named-differs, none-fewer}
@@ -36,29 +38,24 @@ unfolding named
 named-unrefused [] = refl
 named-unrefused (t ∷ ts) = refl
 
-pub not-refused : (a b : List ℕ) (r : Compared) → r ≡ comparedOf a b → (refusalOf 1 a) .number ≡ 0 → (refusalOf 2 b) .number ≡ 0 → modesOf a ≡ modesOf b
+pub not-refused : (a b : List ℕ) (r : Compared) → r ≡ comparedOf (readAs 1 a) (readAs 2 b) → (refusalOf 1 a) .number ≡ 0 → (refusalOf 2 b) .number ≡ 0 → modesOf a ≡ modesOf b
     → r .refusal ≡ none
-unfolding comparedOf pairRefusal
 not-refused a b r e x y m =
-    let pair : pairRefusal a b ≡ none =
+    let pair : operandsRefusal (readAs 1 a) (readAs 2 b) ≡ none =
     rw (accepted-none 1 a x, accepted-none 2 b y, eq-eqb (modesOf a) (modesOf b) m) (or-second none _ refl ∙ or-second none _ refl) in
-    ap (λ (c : Compared). c .refusal) e ∙ rw pair (named-unrefused (differing (termsOf a) (termsOf b)))
+    ap (λ (c : Compared). c .refusal) e ∙ rw (pair, unless-not none refusedComparison (named (differing (termsOf a) (termsOf b))) refl) (named-unrefused (differing (termsOf a) (termsOf b)))
 
 -- an answer that is no refusal
 record Answers (a b : List ℕ) (r : Compared) : Type 0 where
-  fine : (pairRefusal a b) .number ≡ 0
+  fine : (operandsRefusal (readAs 1 a) (readAs 2 b)) .number ≡ 0
   is : r ≡ named (differing (termsOf a) (termsOf b))
 
-answers : (a b : List ℕ) (r : Compared) → r ≡ comparedOf a b → r .refusal .number ≡ 0 → Answers a b r
-unfolding comparedOf
-answers a b r e ok = go (eqb ((pairRefusal a b) .number) 0) refl e
-  where
-    go : (s : Bool) → eqb ((pairRefusal a b) .number) 0 ≡ s
-        → r ≡ cond s (named (differing (termsOf a) (termsOf b))) (refusedComparison (pairRefusal a b)) → Answers a b r
-    go true q p = record { fine = eqb-true _ _ q; is = p }
-    go false q p = absurd (eqb-false _ _ q (ap (λ (x : Compared). x .refusal .number) (sym p) ∙ ok))
+answers : (a b : List ℕ) (r : Compared) → r ≡ comparedOf (readAs 1 a) (readAs 2 b) → r .refusal .number ≡ 0 → Answers a b r
+answers a b r e ok =
+    let found = answered (operandsRefusal (readAs 1 a) (readAs 2 b)) refusedComparison (named (differing (termsOf a) (termsOf b))) (λ c. c .refusal) refl r e ok in
+    record { fine = found .0; is = found .1 }
 
-module _ (a b : List ℕ) (r : Compared) (e : r ≡ comparedOf a b) (ok : r .refusal .number ≡ 0) where
+module _ (a b : List ℕ) (r : Compared) (e : r ≡ comparedOf (readAs 1 a) (readAs 2 b)) (ok : r .refusal .number ≡ 0) where
   answer : Answers a b r
   answer = answers a b r e ok
 

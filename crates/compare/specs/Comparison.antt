@@ -10,8 +10,9 @@ use Rattle.modes.specs.Answers.{none}
 use Rattle.record.specs.Terms.{before}
 use Rattle.modes.specs.Terms.{annihilations}
 use Rattle.record.specs.Coefficients.{coeffOf}
-use Rattle.record.specs.Layout.{termsOf}
-use Rattle.lincomb.specs.Results.{pairRefusal}
+use Rattle.record.specs.Operands.{Operand}
+use Rattle.modes.specs.Refusals.{unless}
+use Rattle.results.specs.Results.{operandsRefusal}
 use Rattle.compare.specs.declared.Compared.{Compared}
 
 -- t is held by one list only or with other coefficients: its words have not one coefficient in both, which is 0 where they are not held
@@ -44,5 +45,5 @@ abbrev pub refusedComparison : Refusal → Compared
 refusedComparison r = record { refusal = r; equal = false; bra = 0; ket = 0 }
 
 -- 1 to 6, and then the terms
-unfoldable pub comparedOf : List ℕ → List ℕ → Compared
-comparedOf a b = cond (eqb ((pairRefusal a b) .number) 0) (named (differing (termsOf a) (termsOf b))) (refusedComparison (pairRefusal a b))
+abbrev pub comparedOf : Operand → Operand → Compared
+comparedOf a b = unless (operandsRefusal a b) refusedComparison (named (differing (a .terms) (b .terms)))

@@ -4,8 +4,10 @@ use modes::Sign;
 use modes::Term;
 ghost use mathlib.Core.Path.{_≡_};
 ghost use mathlib.Core.Bool.{true};
+ghost use Rattle.record.specs.Operands.{readAs};
 ghost use Rattle.normal.specs.Normal.{dropZeros};
-ghost use Rattle.lincomb.specs.Merging.{Sound, onward};
+ghost use Rattle.lincomb.specs.Merging.{onward};
+ghost use Rattle.record.specs.Reading.{Sound};
 ghost use Rattle.record.specs.Reading.{Sound};
 ghost use Rattle.compare.specs.Comparison.{ahead, named, refusedComparison, comparedOf};
 ghost use Rattle.compare.specs.Finding.{withTerm};
@@ -109,9 +111,9 @@ fn find(a: &[u8], na: usize, b: &[u8], nb: usize) -> Compared
 
 // Are the two records equal? If not, the pair of words that is named.
 pub fn compare(a: &[u8], b: &[u8]) -> Compared
-    ensures { λ r. ⌜ r ≡ comparedOf (now (a .entry)) (now (b .entry)) ⌝ }
+    ensures { λ r. ⌜ r ≡ comparedOf (readAs 1 (now (a .entry))) (readAs 2 (now (b .entry))) ⌝ }
 {
-    let p = lincomb::open_pair(a, b);
+    let p = results::open_operands(a, b);
     if p.refusal.number != 0 {
         let refusal = p.refusal;
         return Compared::refused(refusal);

@@ -52,7 +52,7 @@ abbrev pub Holds : Case → Type 0
 Holds (product l-cre l-ann r-cre r-ann rows) = rowsTimes l-cre l-ann r-cre r-ann (pos 1) ≡ rows
 Holds (gives cre ann ket r) = applied cre ann ket ≡ r
 Holds (keeps cre ann) = (ket : ℕ) → applied cre ann ket ≡ plus ket
-Holds (commutes a b work room o) = commutatorOf work room a b ≡ o
+Holds (commutes a b work room o) = commutatorOf work room (readAs 1 a) (readAs 2 b) ≡ o
 Holds (element-is l bra ket z) = element bra ket (termsOf l) ≡ z
 
 -- a case with its number

@@ -120,7 +120,7 @@ pub extern "C" fn fermion_check(a: &[u8], answer: &mut [u64; 8])
 
 #[no_mangle]
 pub extern "C" fn fermion_add(a: &[u8], b: &[u8], out: &mut [u8], answer: &mut [u64; 8])
-    ensures { λ _. ⌜ Fills (added (length (now (out .entry))) (now (a .entry)) (now (b .entry))) (now (out .exit)) (now (answer .exit)) ⌝ }
+    ensures { λ _. ⌜ Fills (added (length (now (out .entry))) (readAs 1 (now (a .entry))) (readAs 2 (now (b .entry)))) (now (out .exit)) (now (answer .exit)) ⌝ }
 {
     let w = lincomb::add(a, b, out);
     *answer = written(w);
@@ -128,7 +128,7 @@ pub extern "C" fn fermion_add(a: &[u8], b: &[u8], out: &mut [u8], answer: &mut [
 
 #[no_mangle]
 pub extern "C" fn fermion_sub(a: &[u8], b: &[u8], out: &mut [u8], answer: &mut [u64; 8])
-    ensures { λ _. ⌜ Fills (subtracted (length (now (out .entry))) (now (a .entry)) (now (b .entry))) (now (out .exit)) (now (answer .exit)) ⌝ }
+    ensures { λ _. ⌜ Fills (subtracted (length (now (out .entry))) (readAs 1 (now (a .entry))) (readAs 2 (now (b .entry)))) (now (out .exit)) (now (answer .exit)) ⌝ }
 {
     let w = lincomb::sub(a, b, out);
     *answer = written(w);
@@ -142,7 +142,7 @@ pub extern "C" fn fermion_mul(
     out: &mut [u8],
     answer: &mut [u64; 8],
 )
-    ensures { λ _. ⌜ FillsClean (productOf (length (now (work .entry))) (length (now (out .entry))) (now (a .entry)) (now (b .entry))) (now (out .exit)) (now (answer .exit)) (length (now (work .entry))) (now (work .exit)) ⌝ }
+    ensures { λ _. ⌜ FillsClean (productOf (length (now (work .entry))) (length (now (out .entry))) (readAs 1 (now (a .entry))) (readAs 2 (now (b .entry)))) (now (out .exit)) (now (answer .exit)) (length (now (work .entry))) (now (work .exit)) ⌝ }
 {
     let w = multiply::mul(a, b, work, out);
     *answer = written(w);
@@ -156,7 +156,7 @@ pub extern "C" fn fermion_commutator(
     out: &mut [u8],
     answer: &mut [u64; 8],
 )
-    ensures { λ _. ⌜ FillsClean (commutatorOf (length (now (work .entry))) (length (now (out .entry))) (now (a .entry)) (now (b .entry))) (now (out .exit)) (now (answer .exit)) (length (now (work .entry))) (now (work .exit)) ⌝ }
+    ensures { λ _. ⌜ FillsClean (commutatorOf (length (now (work .entry))) (length (now (out .entry))) (readAs 1 (now (a .entry))) (readAs 2 (now (b .entry)))) (now (out .exit)) (now (answer .exit)) (length (now (work .entry))) (now (work .exit)) ⌝ }
 {
     let w = multiply::commutator(a, b, work, out);
     *answer = written(w);
@@ -170,7 +170,7 @@ pub extern "C" fn fermion_anticommutator(
     out: &mut [u8],
     answer: &mut [u64; 8],
 )
-    ensures { λ _. ⌜ FillsClean (anticommutatorOf (length (now (work .entry))) (length (now (out .entry))) (now (a .entry)) (now (b .entry))) (now (out .exit)) (now (answer .exit)) (length (now (work .entry))) (now (work .exit)) ⌝ }
+    ensures { λ _. ⌜ FillsClean (anticommutatorOf (length (now (work .entry))) (length (now (out .entry))) (readAs 1 (now (a .entry))) (readAs 2 (now (b .entry)))) (now (out .exit)) (now (answer .exit)) (length (now (work .entry))) (now (work .exit)) ⌝ }
 {
     let w = multiply::anticommutator(a, b, work, out);
     *answer = written(w);
@@ -185,14 +185,14 @@ fn counted(c: BranchCounts) -> [u64; 8]
 
 #[no_mangle]
 pub extern "C" fn fermion_branches(a: &[u8], b: &[u8], answer: &mut [u64; 8])
-    ensures { λ _. ⌜ now (answer .exit) ≡ branchesAnswer (branchesTold (now (a .entry)) (now (b .entry))) ⌝ }
+    ensures { λ _. ⌜ now (answer .exit) ≡ branchesAnswer (branchesTold (readAs 1 (now (a .entry))) (readAs 2 (now (b .entry)))) ⌝ }
 {
     *answer = counted(branches::branches(a, b));
 }
 
 #[no_mangle]
 pub extern "C" fn fermion_adjoint(a: &[u8], out: &mut [u8], answer: &mut [u64; 8])
-    ensures { λ _. ⌜ Fills (adjointed (length (now (out .entry))) (now (a .entry))) (now (out .exit)) (now (answer .exit)) ⌝ }
+    ensures { λ _. ⌜ Fills (adjointed (length (now (out .entry))) (readAs 1 (now (a .entry)))) (now (out .exit)) (now (answer .exit)) ⌝ }
 {
     let w = adjoint::adjoint(a, out);
     *answer = written(w);
@@ -207,21 +207,21 @@ pub extern "C" fn fermion_is_hermitian(a: &[u8], answer: &mut [u64; 8])
 
 #[no_mangle]
 pub extern "C" fn fermion_conserves_particle_number(a: &[u8], answer: &mut [u64; 8])
-    ensures { λ _. ⌜ now (answer .exit) ≡ testedAnswer (conservesOf (now (a .entry))) ⌝ }
+    ensures { λ _. ⌜ now (answer .exit) ≡ testedAnswer (conservesOf (readAs 1 (now (a .entry)))) ⌝ }
 {
     *answer = tested(figures::conserves_particle_number(a));
 }
 
 #[no_mangle]
 pub extern "C" fn fermion_max_n_body(a: &[u8], answer: &mut [u64; 8])
-    ensures { λ _. ⌜ now (answer .exit) ≡ measuredAnswer (maxNBodyOf (now (a .entry))) ⌝ }
+    ensures { λ _. ⌜ now (answer .exit) ≡ measuredAnswer (maxNBodyOf (readAs 1 (now (a .entry)))) ⌝ }
 {
     *answer = measured(figures::max_n_body(a));
 }
 
 #[no_mangle]
 pub extern "C" fn fermion_active_modes(a: &[u8], answer: &mut [u64; 8])
-    ensures { λ _. ⌜ now (answer .exit) ≡ measuredAnswer (activeModesOf (now (a .entry))) ⌝ }
+    ensures { λ _. ⌜ now (answer .exit) ≡ measuredAnswer (activeModesOf (readAs 1 (now (a .entry)))) ⌝ }
 {
     *answer = measured(figures::active_modes(a));
 }
@@ -236,7 +236,7 @@ pub extern "C" fn fermion_block(a: &[u8], ann: u64, answer: &mut [u64; 8])
 
 #[no_mangle]
 pub extern "C" fn fermion_element(a: &[u8], bra: u64, ket: u64, answer: &mut [u64; 8])
-    ensures { λ _. ⌜ now (answer .exit) ≡ elementAnswer (elementOf (now (a .entry)) bra ket) ⌝ }
+    ensures { λ _. ⌜ now (answer .exit) ≡ elementAnswer (elementOf (readAs 1 (now (a .entry))) bra ket) ⌝ }
 {
     *answer = exact(mat_elem::element(a, bra, ket));
 }
@@ -307,7 +307,7 @@ fn compared(c: Compared) -> [u64; 8]
 
 #[no_mangle]
 pub extern "C" fn fermion_compare(a: &[u8], b: &[u8], answer: &mut [u64; 8])
-    ensures { λ _. ⌜ now (answer .exit) ≡ comparedAnswer (comparedOf (now (a .entry)) (now (b .entry))) ⌝ }
+    ensures { λ _. ⌜ now (answer .exit) ≡ comparedAnswer (comparedOf (readAs 1 (now (a .entry))) (readAs 2 (now (b .entry)))) ⌝ }
 {
     *answer = compared(compare::compare(a, b));
 }
@@ -337,7 +337,7 @@ pub extern "C" fn fermion_mat_ortho_projected(
     matrix: &mut [i64; 64],
     answer: &mut [u64; 8],
 )
-    ensures { λ _. ⌜ FillsMatrix (projectedOf (now (a .entry)) (now (basis .entry))) (now (matrix .exit)) (now (answer .exit)) ⌝ }
+    ensures { λ _. ⌜ FillsMatrix (projectedOf (readAs 1 (now (a .entry))) (now (basis .entry))) (now (matrix .exit)) (now (answer .exit)) ⌝ }
 {
     let p = mat_elem::mat_ortho_projected(a, basis);
     *matrix = in_rows(p);

@@ -7,9 +7,6 @@ ghost use mathlib.Core.List.{_++_};
 ghost use Prim.Native.Nat.{_+_, _-_, _≤_, _<_, _^_};
 ghost use lib.ListN.{length, take};
 ghost use Rattle.lent.specs.Bytes.{halfAt, wordAt, putHalf, putWord, zeros, put};
-ghost use lib.Signed.{mag};
-ghost use mir.Syntax.{w64};
-ghost use mir.Val.{toZ, ofZ};
 ghost use Rattle.lent.specs.Rows.{Fit, rowAt, putRow};
 ghost use Rattle.lent.specs.Outputs.{Gives, refusedOutput};
 

@@ -2,7 +2,6 @@ pub mod Totals
 pub mod Merging
 pub mod Tallying
 pub mod Writing
-pub mod Results
 pub mod Sums
 pub mod Example
 pub mod Unique

@@ -24,7 +24,7 @@ use Rattle.normal.proofs.Totals.{coeff-drop}
 use Rattle.normal.proofs.Normal.{Joins, above-joins, ascending-drop, nonzero-drop, normal-is}
 use Rattle.lincomb.specs.Sums.{turn}
 use Rattle.lincomb.specs.Merging.{merge, onward, taken, Pulled}
-use Rattle.lincomb.proofs.Totals.{coeff-merge, coeff-drop}
+use Rattle.lincomb.proofs.Totals.{coeff-merge}
 
 -- signs change no order
 pub ascending-turn : (minus : Bool) (ts : List Term) → Ascending ts → Ascending (map (turn minus) ts)

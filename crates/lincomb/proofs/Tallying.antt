@@ -14,7 +14,7 @@ use Rattle.record.proofs.Weights.{Weighs, weighs-start, weighs-more}
 use Rattle.record.proofs.Checking.{weight-front, weight-none}
 use Rattle.normal.specs.Normal.{dropZeros}
 use Rattle.normal.proofs.Sizes.{drop-length, drop-weight, drop-none}
-use Rattle.lincomb.specs.Tallies.{Tallied}
+use Rattle.results.specs.Tallies.{Tallied}
 
 -- a walk over the terms of whole, with left to come: n counted so far, of weight w
 pub record Tallying (whole left : List Term) (n w : ℕ) : Type 0 where

@@ -5,6 +5,10 @@ use Prim.Native.Nat.{ℕ, _+_, _≤_, _<_, zero-le}
 use native.Mathlib.Omega.{arith}
 use lib.IntN.{natAbs}
 use lib.ListN.{length, take, set, length-append, length-take}
+use Rattle.record.proofs.Columns.{terms-all, terms-more}
+use Rattle.record.specs.Layout.{termsIn}
+use Rattle.normal.specs.Normal.{dropZeros}
+use Rattle.modes.specs.declared.Term.{Term}
 use Rattle.record.proofs.Reading.{length-terms}
 use Rattle.normal.proofs.Sizes.{drop-none, drop-keeps, drop-leaves}
 

@@ -1,4 +1,2 @@
-pub mod Results
 pub mod Sums
 pub mod Merging
-pub mod Tallies

@@ -3,100 +3,28 @@ use modes::Refusal;
 use modes::Sign;
 use modes::Term;
 use modes::Written;
+use results::Tally;
 ghost use mathlib.Core.Path.{_≡_};
 ghost use mathlib.Core.Bool.{cond};
 ghost use Prim.Native.Nat.{_+_, _≤_, _<_, _^_};
 ghost use lib.Dec.{eqb};
 ghost use lib.IntN.{natAbs};
 ghost use lib.ListN.{length};
+ghost use Rattle.record.specs.Operands.{readAs};
 ghost use Rattle.lent.specs.Outputs.{Gives, filledOutput};
 ghost use Rattle.record.specs.Layout.{encode, termsIn};
 ghost use Rattle.normal.specs.Normal.{dropZeros};
 ghost use Rattle.record.specs.Reading.{Holds, Sound};
-ghost use Rattle.lincomb.specs.Results.{shut, openedOf, resultRefusal};
+ghost use Rattle.results.specs.Results.{shut, openedOf, resultRefusal};
 ghost use Rattle.lincomb.specs.Sums.{turn, combined, added, subtracted};
 ghost use Rattle.lincomb.specs.Merging.{onward, Pulled};
-ghost use Rattle.lincomb.specs.Tallies.{Tallied};
-
-// Two records once both are checked: the refusal, or none with their modes, their numbers of terms and their weights.
-pub struct Opened {
-    pub refusal: Refusal,
-    pub modes: u64,
-    pub left: usize,
-    pub right: usize,
-    pub left_weight: u64,
-    pub right_weight: u64,
-}
-
-impl Opened {
-    fn refused(refusal: Refusal) -> Opened
-        ensures { λ r. ⌜ r ≡ shut refusal ⌝ }
-    {
-        Opened {
-            refusal,
-            modes: 0,
-            left: 0,
-            right: 0,
-            left_weight: 0,
-            right_weight: 0,
-        }
-    }
-}
+ghost use Rattle.results.specs.Tallies.{Tallied};
 
 // A term, and how many terms of each record are taken with it.
 pub struct Step {
     pub term: Term,
     pub left: usize,
     pub right: usize,
-}
-
-// How many terms, and their weight.
-pub struct Tally {
-    pub terms: usize,
-    pub weight: u64,
-}
-
-// Both records' checks, and 6.
-pub fn open_pair(a: &[u8], b: &[u8]) -> Opened
-    ensures { λ r. ⌜ r ≡ openedOf (now (a .entry)) (now (b .entry)) ⌝ }
-{
-    let p = record::check(a, 1);
-    if p.refusal.number != 0 {
-        let refusal = p.refusal;
-        return Opened::refused(refusal);
-    }
-    let q = record::check(b, 2);
-    if q.refusal.number != 0 {
-        let refusal = q.refusal;
-        return Opened::refused(refusal);
-    }
-    if p.modes != q.modes {
-        return Opened::refused(Refusal::MODES_DIFFER);
-    }
-    Opened {
-        refusal: Refusal::NONE,
-        modes: p.modes,
-        left: p.terms,
-        right: q.terms,
-        left_weight: p.weight,
-        right_weight: q.weight,
-    }
-}
-
-// Numbers 10, 9 and 11 of a result of n terms and weight w.
-pub fn verdict(room: usize, n: usize, w: u64) -> Refusal
-    ensures { λ r. ⌜ r ≡ resultRefusal room n w ⌝ }
-{
-    if modes::MOST_TERMS < n {
-        return Refusal::TOO_MANY_TERMS;
-    }
-    if record::HEAVIEST < w {
-        return Refusal::RESULT_TOO_HEAVY;
-    }
-    if room < record::length_of(n) {
-        return Refusal::OUTPUT_TOO_SHORT;
-    }
-    Refusal::NONE
 }
 
 // The term, or its negative where the sign is minus.
@@ -234,9 +162,9 @@ fn write_sum(
 
 // The first record with the second, each of whose terms has the sign.
 fn combine(sign: Sign, a: &[u8], b: &[u8], out: &mut [u8]) -> Written
-    ensures { λ r. ⌜ Gives (combined (sign .0) (length (now (out .entry))) (now (a .entry)) (now (b .entry))) r (now (out .exit)) ⌝ }
+    ensures { λ r. ⌜ Gives (combined (sign .0) (length (now (out .entry))) (readAs 1 (now (a .entry))) (readAs 2 (now (b .entry)))) r (now (out .exit)) ⌝ }
 {
-    let p = open_pair(a, b);
+    let p = results::open_operands(a, b);
     if p.refusal.number != 0 {
         let refusal = p.refusal;
         return lent::refuse(out, refusal);
@@ -245,7 +173,7 @@ fn combine(sign: Sign, a: &[u8], b: &[u8], out: &mut [u8]) -> Written
     let nb = p.right;
     let t = count_terms(sign, a, na, b, nb);
     let n = t.terms;
-    let late = verdict(out.len(), n, t.weight);
+    let late = results::verdict(out.len(), n, t.weight);
     if late.number != 0 {
         return lent::refuse(out, late);
     }
@@ -254,14 +182,14 @@ fn combine(sign: Sign, a: &[u8], b: &[u8], out: &mut [u8]) -> Written
 
 // The record of the sum.
 pub fn add(a: &[u8], b: &[u8], out: &mut [u8]) -> Written
-    ensures { λ r. ⌜ Gives (added (length (now (out .entry))) (now (a .entry)) (now (b .entry))) r (now (out .exit)) ⌝ }
+    ensures { λ r. ⌜ Gives (added (length (now (out .entry))) (readAs 1 (now (a .entry))) (readAs 2 (now (b .entry)))) r (now (out .exit)) ⌝ }
 {
     combine(Sign::PLUS, a, b, out)
 }
 
 // The record of the difference.
 pub fn sub(a: &[u8], b: &[u8], out: &mut [u8]) -> Written
-    ensures { λ r. ⌜ Gives (subtracted (length (now (out .entry))) (now (a .entry)) (now (b .entry))) r (now (out .exit)) ⌝ }
+    ensures { λ r. ⌜ Gives (subtracted (length (now (out .entry))) (readAs 1 (now (a .entry))) (readAs 2 (now (b .entry)))) r (now (out .exit)) ⌝ }
 {
     combine(Sign::MINUS, a, b, out)
 }

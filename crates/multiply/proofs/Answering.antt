@@ -8,6 +8,7 @@ use native.Mathlib.Omega.{arith}
 use lib.Dec.{leb, lit<}
 use lib.ListN.{length}
 use borrow.Author.Tests.{le-leb, lt-leb, leb-true}
+use Rattle.record.specs.Operands.{readAs}
 use Rattle.modes.specs.declared.Term.{Term}
 use Rattle.modes.specs.declared.Refusal.{Refusal}
 use Rattle.modes.specs.Answers.{refusal, none}
@@ -21,9 +22,11 @@ use Rattle.modes.proofs.Refusals.{or-first, or-second}
 use Rattle.record.proofs.Outputs.{refused-earlier}
 use Rattle.normal.specs.Normal.{normal}
 use Rattle.normal.proofs.Normal.{normal-same}
-use Rattle.lincomb.specs.Results.{pairRefusal, resultOf, openedOf}
-use Rattle.lincomb.specs.declared.Opened.{Opened}
-use Rattle.lincomb.proofs.Results.{Opens, opens, shuts, sound, refused-earlier}
+use Rattle.results.specs.Results.{operandsRefusal, resultOf, openedOf}
+use Rattle.results.specs.declared.Opened.{Opened}
+use Rattle.results.proofs.Results.{Opens, opens, shuts}
+use Rattle.record.proofs.Accepted.{sound}
+use Rattle.record.proofs.Outputs.{refused-earlier}
 use Rattle.record.specs.Reading.{Holds}
 use Rattle.record.proofs.Accepted.{sound}
 use Rattle.joins.specs.Collected.{Collected}
@@ -55,26 +58,26 @@ module _ (both minus : Bool) (a b : List ℕ) (work room : ℕ) (p : Opened) (ep
   heavy = weightRefusal (weight (termsOf a)) (weight (termsOf b))
 
   -- refused by the first refusal that there is
-  by : (r : Refusal) → r ≡ earlyRefusal both work a b → (r .number ≡ 0 → ⊥) → refusedOutput room r ≡ productAnswer both minus work room a b
-  by r e h = rw e (refused-earlier room branches (earlyRefusal both work a b) _ (modesOf a) (normal rows) (λ q. h (ap (λ (x : Refusal). x .number) e ∙ q)))
+  by : (r : Refusal) → r ≡ earlyRefusal both work (readAs 1 a) (readAs 2 b) → (r .number ≡ 0 → ⊥) → refusedOutput room r ≡ productAnswer both minus work room (readAs 1 a) (readAs 2 b)
+  by r e h = rw e (refused-earlier room branches (earlyRefusal both work (readAs 1 a) (readAs 2 b)) _ (modesOf a) (normal rows) (λ q. h (ap (λ (x : Refusal). x .number) e ∙ q)))
 
-  pub pair-refused : (p .refusal .number ≡ 0 → ⊥) → refusedOutput room (p .refusal) ≡ productAnswer both minus work room a b
+  pub pair-refused : (p .refusal .number ≡ 0 → ⊥) → refusedOutput room (p .refusal) ≡ productAnswer both minus work room (readAs 1 a) (readAs 2 b)
   pair-refused h =
       let e = shuts a b p ep h in
-      by (p .refusal) (e ∙ sym (or-first (pairRefusal a b) (orElse heavy (workRefusal work branches)) (λ q. h (ap (λ (r : Refusal). r .number) e ∙ q)))) h
+      by (p .refusal) (e ∙ sym (or-first (operandsRefusal (readAs 1 a) (readAs 2 b)) (orElse heavy (workRefusal work branches)) (λ q. h (ap (λ (r : Refusal). r .number) e ∙ q)))) h
 
   module _ (z : p .refusal .number ≡ 0) where
     ready : Opens a b p
     ready = opens a b p ep z
 
-    after-pair : earlyRefusal both work a b ≡ orElse heavy (workRefusal work branches)
-    after-pair = or-second (pairRefusal a b) _ (ap (λ (r : Refusal). r .number) (ready .pair))
+    after-pair : earlyRefusal both work (readAs 1 a) (readAs 2 b) ≡ orElse heavy (workRefusal work branches)
+    after-pair = or-second (operandsRefusal (readAs 1 a) (readAs 2 b)) _ (ap (λ (r : Refusal). r .number) (ready .pair))
 
     module _ (h : Refusal) (eh : h ≡ weightRefusal (p .«left_weight») (p .«right_weight»)) where
       heavy-is : h ≡ heavy
       heavy-is = eh ∙ ap₂ weightRefusal (ready .left-weight) (ready .right-weight)
 
-      pub heavy-refused : (h .number ≡ 0 → ⊥) → refusedOutput room h ≡ productAnswer both minus work room a b
+      pub heavy-refused : (h .number ≡ 0 → ⊥) → refusedOutput room h ≡ productAnswer both minus work room (readAs 1 a) (readAs 2 b)
       heavy-refused n =
           by h (heavy-is ∙ sym (after-pair ∙ or-first heavy (workRefusal work branches) (λ q. n (ap (λ (r : Refusal). r .number) heavy-is ∙ q)))) n
 
@@ -82,7 +85,7 @@ module _ (both minus : Bool) (a b : List ℕ) (work room : ℕ) (p : Opened) (ep
         light : weight (termsOf a) * weight (termsOf b) ≤ 2 ^ 60
         light = light-product (weight (termsOf a)) (weight (termsOf b)) (ap (λ (r : Refusal). r .number) (sym heavy-is) ∙ zh)
 
-        after-heavy : earlyRefusal both work a b ≡ workRefusal work branches
+        after-heavy : earlyRefusal both work (readAs 1 a) (readAs 2 b) ≡ workRefusal work branches
         after-heavy = after-pair ∙ or-second heavy _ (ap (λ (r : Refusal). r .number) (sym heavy-is) ∙ zh)
 
         pub left-size : Holds a (p .left)
@@ -98,7 +101,7 @@ module _ (both minus : Bool) (a b : List ℕ) (work room : ℕ) (p : Opened) (ep
           grown : Grown rows l s
           grown = rw (ready .left, ready .right) at g
 
-          pub too-many : length l < s .held → refusedOutput room (refusal 7 0 0) ≡ productAnswer both minus work room a b
+          pub too-many : length l < s .held → refusedOutput room (refusal 7 0 0) ≡ productAnswer both minus work room (readAs 1 a) (readAs 2 b)
           unfolding workRefusal
           too-many k = by (refusal 7 0 0) (sym (after-heavy ∙ rw (lt-leb (24 * branches) work (go grown)))) (λ e. absurd (omega arith))
             where
@@ -123,12 +126,12 @@ module _ (both minus : Bool) (a b : List ℕ) (work room : ℕ) (p : Opened) (ep
             collect-light c d =
                 rw used-is (lt-of-le-of-lt (full .rows .light c d) (all-light both minus (termsOf a) (termsOf b) light c d))
 
-            none-early : earlyRefusal both work a b ≡ none
+            none-early : earlyRefusal both work (readAs 1 a) (readAs 2 b) ≡ none
             unfolding workRefusal
             none-early = after-heavy ∙ rw (le-leb (24 * branches) work (omega (arith, full .held, k, len, all-branches both minus (termsOf a) (termsOf b))))
 
             pub delivered : (m : List ℕ) (n : ℕ) → Collected (s .used / 24) l m n
-                → resultOf room (s .held / 24) none (p .modes) (rowsAt m 0 n) ≡ productAnswer both minus work room a b
+                → resultOf room (s .held / 24) none (p .modes) (rowsAt m 0 n) ≡ productAnswer both minus work room (readAs 1 a) (readAs 2 b)
             delivered m n c =
                 let joined : rowsAt m 0 n ≡ normal rows =
                 c .rows ∙ normal-same (rowsAt l 0 (s .used / 24)) rows (λ x y. ap (λ (i : ℕ). coeffOf x y (rowsAt l 0 i)) used-is ∙ full .rows .coeff x y) in

@@ -1,4 +1,3 @@
-pub mod Delivering
 pub mod Refusing
 pub mod Answering
 pub mod Elements

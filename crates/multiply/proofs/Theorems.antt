@@ -25,8 +25,8 @@ use Rattle.modes.proofs.Refusals.{neither}
 use Rattle.record.proofs.Accepted.{accepted-canonical}
 use Rattle.normal.specs.Normal.{normal}
 use Rattle.normal.proofs.Totals.{element-normal}
-use Rattle.lincomb.specs.Results.{pairRefusal, resultRefusal}
-use Rattle.lincomb.proofs.Results.{first-fine, second-fine, same-modes, result-canonical}
+use Rattle.results.specs.Results.{operandsRefusal, resultRefusal}
+use Rattle.results.proofs.Results.{first-fine, second-fine, same-modes, result-canonical}
 use Rattle.pairs.specs.Products.{pairRows, allRows, allBranches, inSuccession}
 use Rattle.record.proofs.Outputs.{none-refused, output-accepted, output-modes, output-terms}
 use Rattle.multiply.specs.Answers.{weightRefusal, workRefusal, earlyRefusal, productAnswer, productOf, commutatorOf, anticommutatorOf}
@@ -57,7 +57,7 @@ wider m h ts = every-implies ts (λ t k. record { ann = lt-of-lt-of-le (k .ann) 
 
 -- ---- the bytes that a call leaves where it is not refused
 
-module _ (both minus : Bool) (work room : ℕ) (a b : List ℕ) (r : Written) (after : List ℕ) (g : Gives (productAnswer both minus work room a b) r after)
+module _ (both minus : Bool) (work room : ℕ) (a b : List ℕ) (r : Written) (after : List ℕ) (g : Gives (productAnswer both minus work room (readAs 1 a) (readAs 2 b)) r after)
     (z : r .refusal .number ≡ 0) where
   abbrev rows : List Term
   rows = allRows both minus (termsOf a) (termsOf b)
@@ -65,11 +65,11 @@ module _ (both minus : Bool) (work room : ℕ) (a b : List ℕ) (r : Written) (a
   abbrev branches : ℕ
   branches = allBranches both (termsOf a) (termsOf b)
 
-  fine : ((earlyRefusal both work a b) .number ≡ 0) × ((resultRefusal room (length (normal rows)) (weight (normal rows))) .number ≡ 0)
-  fine = none-refused room branches (earlyRefusal both work a b) _ (modesOf a) (normal rows) r after g z
+  fine : ((earlyRefusal both work (readAs 1 a) (readAs 2 b)) .number ≡ 0) × ((resultRefusal room (length (normal rows)) (weight (normal rows))) .number ≡ 0)
+  fine = none-refused room branches (earlyRefusal both work (readAs 1 a) (readAs 2 b)) _ (modesOf a) (normal rows) r after g z
 
-  pair : (pairRefusal a b) .number ≡ 0
-  pair = neither (pairRefusal a b) (orElse (weightRefusal (weight (termsOf a)) (weight (termsOf b))) (workRefusal work branches)) (fine .0) .0
+  pair : (operandsRefusal (readAs 1 a) (readAs 2 b)) .number ≡ 0
+  pair = neither (operandsRefusal (readAs 1 a) (readAs 2 b)) (orElse (weightRefusal (weight (termsOf a)) (weight (termsOf b))) (workRefusal work branches)) (fine .0) .0
 
   left : Canonical (modesOf a) (termsOf a)
   left = accepted-canonical 1 a (first-fine a b pair)
@@ -83,13 +83,13 @@ module _ (both minus : Bool) (work room : ℕ) (a b : List ℕ) (r : Written) (a
 
   -- the output's record is accepted
   pub product-accepted : (o : ℕ) → refusalOf o (take (r .len) after) ≡ none
-  product-accepted = output-accepted room branches (earlyRefusal both work a b) _ (modesOf a) (normal rows) r after g z form
+  product-accepted = output-accepted room branches (earlyRefusal both work (readAs 1 a) (readAs 2 b)) _ (modesOf a) (normal rows) r after g z form
 
   pub product-modes : modesOf (take (r .len) after) ≡ modesOf a
-  product-modes = output-modes room branches (earlyRefusal both work a b) _ (modesOf a) (normal rows) r after g z form
+  product-modes = output-modes room branches (earlyRefusal both work (readAs 1 a) (readAs 2 b)) _ (modesOf a) (normal rows) r after g z form
 
   product-terms : termsOf (take (r .len) after) ≡ normal rows
-  product-terms = output-terms room branches (earlyRefusal both work a b) _ (modesOf a) (normal rows) r after g z form
+  product-terms = output-terms room branches (earlyRefusal both work (readAs 1 a) (readAs 2 b)) _ (modesOf a) (normal rows) r after g z form
 
   product-elements : (bra ket : ℕ) → element bra ket (termsOf (take (r .len) after))
       ≡ inSuccession bra ket (termsOf a) (termsOf b) +ℤ other both minus (inSuccession bra ket (termsOf b) (termsOf a))
@@ -98,19 +98,19 @@ module _ (both minus : Bool) (work room : ℕ) (a b : List ℕ) (r : Written) (a
       ∙ all-elements bra ket both minus (termsOf a) (termsOf b) (wider (modesOf a) (left .most) (termsOf a) (left .inside)) (wider (modesOf a) (left .most) (termsOf b) right)
 
 -- THE PRODUCT: at every bra and ket the record left has the element that b and then a give, ladder by ladder
-pub mul-elements : (work room : ℕ) (a b : List ℕ) (r : Written) (after : List ℕ) → Gives (productOf work room a b) r after → r .refusal .number ≡ 0 → (bra ket : ℕ)
+pub mul-elements : (work room : ℕ) (a b : List ℕ) (r : Written) (after : List ℕ) → Gives (productOf work room (readAs 1 a) (readAs 2 b)) r after → r .refusal .number ≡ 0 → (bra ket : ℕ)
     → element bra ket (termsOf (take (r .len) after)) ≡ inSuccession bra ket (termsOf a) (termsOf b)
 unfolding other
 mul-elements work room a b r after g z bra ket = product-elements false false work room a b r after g z bra ket ∙ +ℤ-idr (inSuccession bra ket (termsOf a) (termsOf b))
 
 -- THE COMMUTATOR: minus the other order
-pub commutator-elements : (work room : ℕ) (a b : List ℕ) (r : Written) (after : List ℕ) → Gives (commutatorOf work room a b) r after → r .refusal .number ≡ 0 → (bra ket : ℕ)
+pub commutator-elements : (work room : ℕ) (a b : List ℕ) (r : Written) (after : List ℕ) → Gives (commutatorOf work room (readAs 1 a) (readAs 2 b)) r after → r .refusal .number ≡ 0 → (bra ket : ℕ)
     → element bra ket (termsOf (take (r .len) after)) ≡ inSuccession bra ket (termsOf a) (termsOf b) +ℤ negℤ (inSuccession bra ket (termsOf b) (termsOf a))
 unfolding other
 commutator-elements = product-elements true true
 
 -- THE ANTICOMMUTATOR: plus the other order
-pub anticommutator-elements : (work room : ℕ) (a b : List ℕ) (r : Written) (after : List ℕ) → Gives (anticommutatorOf work room a b) r after → r .refusal .number ≡ 0 → (bra ket : ℕ)
+pub anticommutator-elements : (work room : ℕ) (a b : List ℕ) (r : Written) (after : List ℕ) → Gives (anticommutatorOf work room (readAs 1 a) (readAs 2 b)) r after → r .refusal .number ≡ 0 → (bra ket : ℕ)
     → element bra ket (termsOf (take (r .len) after)) ≡ inSuccession bra ket (termsOf a) (termsOf b) +ℤ inSuccession bra ket (termsOf b) (termsOf a)
 unfolding other
 anticommutator-elements = product-elements true false

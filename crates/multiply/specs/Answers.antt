@@ -10,10 +10,10 @@ use Rattle.modes.specs.Answers.{rowsDoNotFit, productTooHeavy}
 use Rattle.lent.specs.Bytes.{zeros}
 use Rattle.lent.specs.Outputs.{Output, Gives}
 use Rattle.record.specs.Terms.{weight}
-use Rattle.record.specs.Layout.{modesOf, termsOf}
+use Rattle.record.specs.Operands.{Operand}
 use Rattle.modes.specs.Refusals.{need, orElse}
 use Rattle.normal.specs.Normal.{normal}
-use Rattle.lincomb.specs.Results.{pairRefusal, resultOf}
+use Rattle.results.specs.Results.{operandsRefusal, resultOf}
 use Rattle.pairs.specs.Products.{allRows, allBranches}
 
 -- 8: the product of the two weights
@@ -24,26 +24,26 @@ weightRefusal v w = need (leb (v * w) (2 ^ 60)) productTooHeavy
 unfoldable pub workRefusal : ℕ → ℕ → Refusal
 workRefusal room branches = need (leb (24 * branches) room) rowsDoNotFit
 
--- both records and 6, then 8, then 7
-abbrev pub earlyRefusal : Bool → ℕ → List ℕ → List ℕ → Refusal
+-- both operands and 6, then 8, then 7
+abbrev pub earlyRefusal : Bool → ℕ → Operand → Operand → Refusal
 earlyRefusal both work a b =
-    orElse (pairRefusal a b) (orElse (weightRefusal (weight (termsOf a)) (weight (termsOf b))) (workRefusal work (allBranches both (termsOf a) (termsOf b))))
+    orElse (operandsRefusal a b) (orElse (weightRefusal (weight (a .terms)) (weight (b .terms))) (workRefusal work (allBranches both (a .terms) (b .terms))))
 
 -- for a work of `work` bytes and an output of `room` bytes
-abbrev pub productAnswer : Bool → Bool → ℕ → ℕ → List ℕ → List ℕ → Output
+abbrev pub productAnswer : Bool → Bool → ℕ → ℕ → Operand → Operand → Output
 productAnswer both minus work room a b =
-    resultOf room (allBranches both (termsOf a) (termsOf b)) (earlyRefusal both work a b) (modesOf a) (normal (allRows both minus (termsOf a) (termsOf b)))
+    resultOf room (allBranches both (a .terms) (b .terms)) (earlyRefusal both work a b) (a .modes) (normal (allRows both minus (a .terms) (b .terms)))
 
 -- a b
-abbrev pub productOf : ℕ → ℕ → List ℕ → List ℕ → Output
+abbrev pub productOf : ℕ → ℕ → Operand → Operand → Output
 productOf = productAnswer false false
 
 -- a b - b a
-abbrev pub commutatorOf : ℕ → ℕ → List ℕ → List ℕ → Output
+abbrev pub commutatorOf : ℕ → ℕ → Operand → Operand → Output
 commutatorOf = productAnswer true true
 
 -- a b + b a
-abbrev pub anticommutatorOf : ℕ → ℕ → List ℕ → List ℕ → Output
+abbrev pub anticommutatorOf : ℕ → ℕ → Operand → Operand → Output
 anticommutatorOf = productAnswer true false
 
 -- the answer r, the output after and the work at the end: the value's, and a work all zero

@@ -20,7 +20,7 @@ use Rattle.record.specs.Refusals.{termRefusal, termsRefusal, refusalOf}
 use Rattle.record.proofs.Header.{laid}
 use Rattle.record.proofs.Reading.{length-terms}
 use Rattle.modes.proofs.Refusals.{or-first}
-use Rattle.lincomb.specs.Results.{pairRefusal, resultRefusal}
+use Rattle.results.specs.Results.{operandsRefusal, resultRefusal}
 use Rattle.record.specs.Outputs.{recordOutput}
 use Rattle.decimals.proofs.Decimals.{decimal-length}
 use Rattle.multiply.specs.Answers.{weightRefusal, workRefusal, commutatorOf}
@@ -106,8 +106,7 @@ module _ {room : ℕ} where
       longer true e h = fine
       longer false e h = record { number = omega arith; operand = omega arith; place = omega arith; eleven = λ _. omega (arith, leb-false (recordLength n) room e) }
 
-  lawful-pair : (a b : List ℕ) → Lawful room (pairRefusal a b)
-  unfolding pairRefusal
+  lawful-pair : (a b : List ℕ) → Lawful room (operandsRefusal (readAs 1 a) (readAs 2 b))
   lawful-pair a b =
       lawful-or (refusalOf 1 a) _ (lawful-record 1 (omega arith) a)
       (lawful-or (refusalOf 2 b) _ (lawful-record 2 (omega arith) b) (unless (eqb (modesOf a) (modesOf b)) (refusal 6 0 0) (plain 6 0 0 (omega arith) (omega arith) (omega arith))))
@@ -121,17 +120,16 @@ module _ {room : ℕ} where
   lawful-work work branches = unless (leb (24 * branches) work) (refusal 7 0 0) (plain 7 0 0 (omega arith) (omega arith) (omega arith))
 
   lawful-output : (branches : ℕ) (r : Refusal) (m : ℕ) (ts : List Term) → Lawful room r → Lawful room ((recordOutput room branches r m ts) .answer .refusal)
-  unfolding recordOutput
   lawful-output branches r m ts h = go (eqb (r .number) 0)
     where
       go : (s : Bool) → Lawful room ((cond s (filledOutput room branches (encode m ts)) (refusedOutput room r)) .answer .refusal)
       go true = fine
       go false = h
 
-  lawful-commutator : (work : ℕ) (a b : List ℕ) → Lawful room ((commutatorOf work room a b) .answer .refusal)
+  lawful-commutator : (work : ℕ) (a b : List ℕ) → Lawful room ((commutatorOf work room (readAs 1 a) (readAs 2 b)) .answer .refusal)
   lawful-commutator work a b =
       lawful-output _ _ _ _
-      (lawful-or _ _ (lawful-or (pairRefusal a b) _ (lawful-pair a b) (lawful-or (weightRefusal (weight (termsOf a)) (weight (termsOf b))) _ (lawful-weight _ _) (lawful-work work _)))
+      (lawful-or _ _ (lawful-or (operandsRefusal (readAs 1 a) (readAs 2 b)) _ (lawful-pair a b) (lawful-or (weightRefusal (weight (termsOf a)) (weight (termsOf b))) _ (lawful-weight _ _) (lawful-work work _)))
       (lawful-result _ _))
 
 pub lawful-answer : (work room : ℕ) (input : List ℕ) → Lawful room ((answerTo work room input) .answer .refusal)

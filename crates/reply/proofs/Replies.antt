@@ -61,7 +61,6 @@ pub data Shape (room : ℕ) : Output → Type 0 where
   filling : (branches : ℕ) (bs : List ℕ) → Shape room (filledOutput room branches bs)
 
 result-shape : (room branches : ℕ) (r : Refusal) (m : ℕ) (ts : List Term) → Shape room (recordOutput room branches r m ts)
-unfolding recordOutput
 result-shape room branches r m ts = go (eqb (r .number) 0)
   where
     go : (s : Bool) → Shape room (cond s (filledOutput room branches (encode m ts)) (refusedOutput room r))

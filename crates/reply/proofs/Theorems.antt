@@ -22,12 +22,12 @@ use Rattle.record.proofs.Header.{Laid, laid}
 use Rattle.modes.proofs.Refusals.{or-first, or-second}
 use Rattle.record.proofs.Outputs.{refused-earlier}
 use Rattle.normal.specs.Normal.{normal}
-use Rattle.lincomb.specs.Results.{pairRefusal}
+use Rattle.results.specs.Results.{operandsRefusal}
 use Rattle.pairs.specs.Products.{allRows}
 use Rattle.multiply.specs.Answers.{earlyRefusal, commutatorOf}
 use Rattle.multiply.proofs.Theorems.{product-accepted, product-modes, commutator-elements}
 use Rattle.stream.specs.Lines.{refusedLine, lineIn}
-use Rattle.stream.specs.Replies.{firstOf, secondOf, holdsFirst, answerTo, textOf, replyTo, Replies}
+use Rattle.stream.specs.Replies.{firstOf, secondOf, holdsFirst, answerTo, textOf, replyTo}
 use Rattle.stream.specs.Reported.{Commutator, Reported, line, result}
 use Rattle.stream.proofs.Replies.{total-decides}
 use Rattle.stream.proofs.Bounds.{lawful-line, lawful-answer}
@@ -60,10 +60,10 @@ line-no-record o f =
 -- ---- which record is refused first
 
 module _ (work room : ℕ) where
-  commutator-refused : (a b : List ℕ) (f : Refusal) → pairRefusal a b ≡ f → (f .number ≡ 0 → ⊥) → commutatorOf work room a b ≡ refusedOutput room f
+  commutator-refused : (a b : List ℕ) (f : Refusal) → operandsRefusal (readAs 1 a) (readAs 2 b) ≡ f → (f .number ≡ 0 → ⊥) → commutatorOf work room (readAs 1 a) (readAs 2 b) ≡ refusedOutput room f
   commutator-refused a b f e h =
-      let early : earlyRefusal true work a b ≡ f = rw e (or-first f _ h) in
-      sym (refused-earlier room _ (earlyRefusal true work a b) _ (modesOf a) (normal (allRows true true (termsOf a) (termsOf b))) (λ z. h (ap (λ (r : Refusal). r .number) (sym early) ∙ z))) ∙ ap (refusedOutput room) early
+      let early : earlyRefusal true work (readAs 1 a) (readAs 2 b) ≡ f = rw e (or-first f _ h) in
+      sym (refused-earlier room _ (earlyRefusal true work (readAs 1 a) (readAs 2 b)) _ (modesOf a) (normal (allRows true true (termsOf a) (termsOf b))) (λ z. h (ap (λ (r : Refusal). r .number) (sym early) ∙ z))) ∙ ap (refusedOutput room) early
 
   module _ (input : List ℕ) where
     -- what is there of a first record that is not there whole is refused with 1
@@ -81,22 +81,22 @@ module _ (work room : ℕ) where
 
     -- THE FIRST RECORD: refused before anything else is looked at
     pub first-refused : ((refusalOf 1 (firstOf input)) .number ≡ 0 → ⊥) → answerTo work room input ≡ refusedOutput room (refusalOf 1 (firstOf input))
-    unfolding answerTo pairRefusal
+    unfolding answerTo
     first-refused n = go (holdsFirst input) refl
       where
         go : (s : Bool) → holdsFirst input ≡ s
-            → cond s (commutatorOf work room (firstOf input) (secondOf input)) (refusedOutput room (refusal 1 1 0)) ≡ refusedOutput room (refusalOf 1 (firstOf input))
+            → cond s (commutatorOf work room (readAs 1 (firstOf input)) (readAs 2 (secondOf input))) (refusedOutput room (refusal 1 1 0)) ≡ refusedOutput room (refusalOf 1 (firstOf input))
         go true e = commutator-refused (firstOf input) (secondOf input) (refusalOf 1 (firstOf input)) (or-first _ _ n) n
         go false e = ap (refusedOutput room) (sym (short-first e))
 
     -- THE SECOND RECORD: once the first is accepted, and before its mode count is compared
     pub second-refused : (refusalOf 1 (firstOf input)) .number ≡ 0 → ((refusalOf 2 (secondOf input)) .number ≡ 0 → ⊥)
         → answerTo work room input ≡ refusedOutput room (refusalOf 2 (secondOf input))
-    unfolding answerTo pairRefusal
+    unfolding answerTo
     second-refused z n = go (holdsFirst input) refl
       where
         go : (s : Bool) → holdsFirst input ≡ s
-            → cond s (commutatorOf work room (firstOf input) (secondOf input)) (refusedOutput room (refusal 1 1 0)) ≡ refusedOutput room (refusalOf 2 (secondOf input))
+            → cond s (commutatorOf work room (readAs 1 (firstOf input)) (readAs 2 (secondOf input))) (refusedOutput room (refusal 1 1 0)) ≡ refusedOutput room (refusalOf 2 (secondOf input))
         go true e =
             commutator-refused (firstOf input) (secondOf input) (refusalOf 2 (secondOf input)) (or-second _ _ z ∙ or-first _ _ n) n
         go false e = let one : _≡_ {A = ℕ} 1 0 = ap (λ (r : Refusal). r .number) (sym (short-first e)) ∙ z in absurd (omega arith)
@@ -156,16 +156,16 @@ module _ (work room : ℕ) (input : List ℕ) where
 
   module _ (z : answer .answer .refusal .number ≡ 0) where
     -- then the first record is there
-    not-short : answer ≡ commutatorOf work room (firstOf input) (secondOf input)
+    not-short : answer ≡ commutatorOf work room (readAs 1 (firstOf input)) (readAs 2 (secondOf input))
     unfolding answerTo
     not-short = go (holdsFirst input) z
       where
-        go : (s : Bool) → (cond s (commutatorOf work room (firstOf input) (secondOf input)) (refusedOutput room (refusal 1 1 0))) .answer .refusal .number ≡ 0
-            → cond s (commutatorOf work room (firstOf input) (secondOf input)) (refusedOutput room (refusal 1 1 0)) ≡ commutatorOf work room (firstOf input) (secondOf input)
+        go : (s : Bool) → (cond s (commutatorOf work room (readAs 1 (firstOf input)) (readAs 2 (secondOf input))) (refusedOutput room (refusal 1 1 0))) .answer .refusal .number ≡ 0
+            → cond s (commutatorOf work room (readAs 1 (firstOf input)) (readAs 2 (secondOf input))) (refusedOutput room (refusal 1 1 0)) ≡ commutatorOf work room (readAs 1 (firstOf input)) (readAs 2 (secondOf input))
         go true y = refl
         go false y = absurd (omega arith)
 
-    given : Gives (commutatorOf work room (firstOf input) (secondOf input)) (answer .answer) (answer .bytes)
+    given : Gives (commutatorOf work room (readAs 1 (firstOf input)) (readAs 2 (secondOf input))) (answer .answer) (answer .bytes)
     given = record { answer = ap (λ (o : Output). o .answer) not-short; bytes = ap (λ (o : Output). o .bytes) not-short }
 
     is-commutator : Commutator (firstOf input) (secondOf input) (take (answer .answer .len) (answer .bytes))

@@ -26,7 +26,7 @@ holdsFirst input = leb 32 (length input) && leb (totalOf input) (length input)
 -- the commutator's answer, for a work of `work` and an output of `room` bytes; 1, operand 1, where the first record isn't there
 unfoldable pub answerTo : ℕ → ℕ → List ℕ → Output
 answerTo work room input =
-    cond (holdsFirst input) (commutatorOf work room (firstOf input) (secondOf input)) (refusedOutput room (refusal 1 1 0))
+    cond (holdsFirst input) (commutatorOf work room (readAs 1 (firstOf input)) (readAs 2 (secondOf input))) (refusedOutput room (refusal 1 1 0))
 
 -- an answer as text: the record that stands in the output, or the line of the refusal
 unfoldable pub textOf : ℕ → Output → List ℕ

@@ -5,21 +5,21 @@ use borrow.Author.Needs.{needs}
 use Rattle.compare.proofs.compare.Statement.{statement}
 use Rattle.compare.proofs.compare.Tie as tie
 
-open-pair-requires : tie.Need-open-pair-requires
-open-pair-requires c κs = search needs
+open-operands-requires : tie.Need-open-operands-requires
+open-operands-requires c κs = search needs
 
 refused-requires : tie.Need-refused-requires
 refused-requires c κs = search needs
 
 returns : tie.Need-returns
-returns c = c .refused .ensures ∙ comparison-refused _ _ _ (c .before .before .before .before .open-pair .ensures) (c .before .before .if1 .taken)
+returns c = c .refused .ensures ∙ comparison-refused _ _ _ (c .before .before .before .before .open-operands .ensures) (c .before .before .if1 .taken)
 
 find-requires : tie.Need-find-requires
-find-requires c κs = both-sound _ _ _ (c .before .before .open-pair .ensures) (c .if1 .left)
+find-requires c κs = both-sound _ _ _ (c .before .before .open-operands .ensures) (c .if1 .left)
 
 returns-2 : tie.Need-returns-2
-returns-2 c = c .find .ensures ∙ comparison-found _ _ _ (c .before .before .before .open-pair .ensures) (c .before .if1 .left)
+returns-2 c = c .find .ensures ∙ comparison-found _ _ _ (c .before .before .before .open-operands .ensures) (c .before .if1 .left)
 
 pub compare-spec : {M : Type 1} → statement M
 compare-spec =
-    tie.close (tie.spec open-pair-requires refused-requires returns find-requires returns-2)
+    tie.close (tie.spec open-operands-requires refused-requires returns find-requires returns-2)

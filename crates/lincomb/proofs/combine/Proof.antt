@@ -7,13 +7,13 @@ use Rattle.lincomb.proofs.combine.Tie as tie
 use Rattle.lincomb.proofs.combine.Reads as reads
 use Rattle.lincomb.proofs.combine.Lts as lts
 use Rattle.lincomb.proofs.count_terms.Reads as count-terms-reads
-use Rattle.lincomb.proofs.open_pair.Reads as open-pair-reads
+use Rattle.results.proofs.open_operands.Reads as open-operands-reads
 use Rattle.lent.proofs.refuse.Reads as refuse-reads
-use Rattle.lincomb.proofs.verdict.Reads as verdict-reads
+use Rattle.results.proofs.verdict.Reads as verdict-reads
 use Rattle.lincomb.proofs.write_sum.Reads as write-sum-reads
 
-open-pair-requires : tie.Need-open-pair-requires
-open-pair-requires c κs = search needs
+open-operands-requires : tie.Need-open-operands-requires
+open-operands-requires c κs = search needs
 
 refuse-requires : tie.Need-refuse-requires
 refuse-requires c κs = search needs
@@ -24,13 +24,13 @@ same-length c = search needs
 returns : tie.Need-returns
 returns c =
     let s = c .before .before .before .before .before .before .before .before .before .before .before .args in
-    let pair = pair-refused (s .sign .0) _ _ (s .out .now) _ (c .before .before .before .before .before .before .before .open-pair .ensures) (c .before .before .before .before .before .if1 .taken) in
+    let pair = pair-refused (s .sign .0) _ _ (s .out .now) _ (c .before .before .before .before .before .before .before .open-operands .ensures) (c .before .before .before .before .before .if1 .taken) in
     gives-as pair (c .before .before .refuse .ensures)
 
 count-terms-requires : tie.Need-count-terms-requires
 count-terms-requires c κs =
     let s = c .before .before .before .before .before .before .args in
-    let p = c .before .before .open-pair .ensures in
+    let p = c .before .before .open-operands .ensures in
     (sound-left (s .sign .0) _ _ (s .out .now) _ p (c .if1 .left), sound-right (s .sign .0) _ _ (s .out .now) _ p (c .if1 .left))
 
 verdict-requires : tie.Need-verdict-requires
@@ -43,7 +43,7 @@ same-length-2 : tie.Need-same-length-2
 same-length-2 c = search needs
 
 -- once the tally is weighed
-abbrev pair : tie.After-verdict → tie.After-open-pair
+abbrev pair : tie.After-verdict → tie.After-open-operands
 pair v = v .before .before .before .before
 
 abbrev start : tie.After-verdict → tie.Start
@@ -53,14 +53,14 @@ returns-2 : tie.Need-returns-2
 returns-2 c =
     let v = c .before .before .before .before .before .before in
     let s = start v .args in
-    gives-as (result-refused (s .sign .0) _ _ (s .out .now) _ (pair v .open-pair .ensures) (v .before .before .if1 .left) _ (v .before .count-terms .ensures) _ (v .verdict .ensures) (c .before .before .before .before .if2 .taken)) (c .before .before .refuse2 .ensures)
+    gives-as (result-refused (s .sign .0) _ _ (s .out .now) _ (pair v .open-operands .ensures) (v .before .before .if1 .left) _ (v .before .count-terms .ensures) _ (v .verdict .ensures) (c .before .before .before .before .if2 .taken)) (c .before .before .refuse2 .ensures)
 
 write-sum-requires : tie.Need-write-sum-requires
 write-sum-requires c κs =
     let v = c .before .before .before in
     let s = start v .args in
-    let f = room-enough (s .sign .0) _ _ (s .out .now) _ (pair v .open-pair .ensures) (v .before .before .if1 .left) _ (v .before .count-terms .ensures) _ (v .verdict .ensures) (c .before .if2 .left) in
-    ((sound-left (s .sign .0) _ _ (s .out .now) _ (pair v .open-pair .ensures) (v .before .before .if1 .left), sound-right (s .sign .0) _ _ (s .out .now) _ (pair v .open-pair .ensures) (v .before .before .if1 .left)), (v .before .count-terms .ensures .terms, f .long, f .few))
+    let f = room-enough (s .sign .0) _ _ (s .out .now) _ (pair v .open-operands .ensures) (v .before .before .if1 .left) _ (v .before .count-terms .ensures) _ (v .verdict .ensures) (c .before .if2 .left) in
+    ((sound-left (s .sign .0) _ _ (s .out .now) _ (pair v .open-operands .ensures) (v .before .before .if1 .left), sound-right (s .sign .0) _ _ (s .out .now) _ (pair v .open-operands .ensures) (v .before .before .if1 .left)), (v .before .count-terms .ensures .terms, f .long, f .few))
 
 same-length-3 : tie.Need-same-length-3
 same-length-3 c = search needs
@@ -69,13 +69,13 @@ returns-3 : tie.Need-returns-3
 returns-3 c =
     let v = c .before .before .before .before .before .before in
     let s = start v .args in
-    gives-as (result-delivered (s .sign .0) _ _ (s .out .now) _ (pair v .open-pair .ensures) (v .before .before .if1 .left) _ (v .before .count-terms .ensures) _ (v .verdict .ensures) (c .before .before .before .before .if2 .left)) (c .before .before .write-sum .ensures)
+    gives-as (result-delivered (s .sign .0) _ _ (s .out .now) _ (pair v .open-operands .ensures) (v .before .before .if1 .left) _ (v .before .count-terms .ensures) _ (v .verdict .ensures) (c .before .before .before .before .if2 .left)) (c .before .before .write-sum .ensures)
 
 pub combine-spec : {M : Type 1} → statement M
 combine-spec =
     tie.close
     (tie.spec
-    open-pair-requires
+    open-operands-requires
     refuse-requires
     same-length
     returns

@@ -5,7 +5,7 @@ use mathlib.Core.List.{List}
 use lib.ListN.{length}
 use Rattle.modes.specs.declared.Term.{Term}
 use Rattle.record.specs.Terms.{weight}
-use Rattle.lincomb.specs.declared.Tally.{Tally}
+use Rattle.results.specs.declared.Tally.{Tally}
 
 pub record Tallied (ts : List Term) (r : Tally) : Type 0 where
   pub terms : r .terms ≡ length ts

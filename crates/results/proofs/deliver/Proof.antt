@@ -1,4 +1,4 @@
--- `multiply::deliver` meets its contract: refused by what was counted and weighed, or the record.
+-- `results::deliver` meets its contract: refused by what was counted and weighed, or the record.
 use borrow.Author.Needs.{needs}
 use mathlib.Core.Path.{refl, sym, ap, _∙_}
 use native.Mathlib.Omega.{arith}
@@ -7,13 +7,15 @@ use Rattle.modes.specs.declared.Refusal.{Refusal}
 use Rattle.modes.specs.Answers.{none}
 use Rattle.lent.specs.Rows.{rowsAt}
 use Rattle.record.proofs.Outputs.{refused-late, delivers, gives-as}
-use Rattle.lincomb.proofs.Results.{deliverable, Deliverable, refused-late, delivers}
-use Rattle.multiply.proofs.Delivering.{verdict-is}
-use Rattle.multiply.proofs.deliver.Statement.{statement}
-use Rattle.multiply.proofs.deliver.Tie as tie
+use Rattle.results.proofs.Results.{deliverable, Deliverable}
+use Rattle.record.proofs.Outputs.{refused-late}
+use Rattle.record.proofs.Outputs.{delivers}
+use Rattle.results.proofs.Delivering.{verdict-is}
+use Rattle.results.proofs.deliver.Statement.{statement}
+use Rattle.results.proofs.deliver.Tie as tie
 
-tally-requires : tie.Need-tally-requires
-tally-requires c κs = search needs
+weigh-rows-requires : tie.Need-weigh-rows-requires
+weigh-rows-requires c κs = search needs
 
 verdict-requires : tie.Need-verdict-requires
 verdict-requires c κs = search needs
@@ -27,22 +29,22 @@ same-length c = search needs
 returns : tie.Need-returns
 returns c =
     let s = c .before .before .before .before .before .before .before .before .before .before in
-    let t = c .before .before .before .before .before .before .before .tally .ensures in
+    let t = c .before .before .before .before .before .before .before .weigh-rows .ensures in
     let judged = verdict-is (length (s .args .out .now)) (s .args .work .now) (s .args .n) _ t _ (c .before .before .before .before .before .before .verdict .ensures) in
     gives-as (refused-late (length (s .args .out .now)) (s .args .branches) none _ (s .args .m) (rowsAt (s .args .work .now) 0 (s .args .n)) refl _ judged (c .before .before .before .before .if1 .taken)) (c .before .before .refuse .ensures)
 
 -- what was not refused can be delivered
-ready : (k : tie.After-put-terms-arg) → let s = k .before .before .before .before .before .before .before .args in Deliverable (length (s .out .now)) (s .n) (k .before .before .before .before .tally .result .weight)
+ready : (k : tie.After-put-rows-arg) → let s = k .before .before .before .before .before .before .before .args in Deliverable (length (s .out .now)) (s .n) (k .before .before .before .before .weigh-rows .result .weight)
 ready k = deliverable _ _ _ (ap (λ (r : Refusal). r .number) (sym (k .before .before .before .verdict .ensures)) ∙ k .before .if1 .left)
 
-put-terms-requires : tie.Need-put-terms-requires
-put-terms-requires c κs = (c .before .before .before .before .before .before .before .pre, ready c .long)
+put-rows-requires : tie.Need-put-rows-requires
+put-rows-requires c κs = (c .before .before .before .before .before .before .before .pre, ready c .long)
 
 finish-requires : tie.Need-finish-requires
 finish-requires c κs =
     let put = c .before .before .before in
     let room = ready (put .before) in
-    (omega (arith, room .long, put .put-terms .kept .1 .1 .0), room .few)
+    (omega (arith, room .long, put .put-rows .kept .1 .1 .0), room .few)
 
 same-length-2 : tie.Need-same-length-2
 same-length-2 c = search needs
@@ -53,20 +55,20 @@ returns-2 c =
     let chosen = put .before .before in
     let verdict = chosen .before .before in
     let s = verdict .before .before .before .before .args in
-    let judged = verdict-is (length (s .out .now)) (s .work .now) (s .n) _ (verdict .before .tally .ensures) _ (verdict .verdict .ensures) in
+    let judged = verdict-is (length (s .out .now)) (s .work .now) (s .n) _ (verdict .before .weigh-rows .ensures) _ (verdict .verdict .ensures) in
     gives-as (delivers (length (s .out .now)) (s .branches) none _ (s .m) (rowsAt (s .work .now) 0 (s .n)) refl _ judged (chosen .if1 .left))
-    (rw (put .put-terms .kept .1 .1 .0, put .put-terms .ensures) at (c .before .before .finish .ensures))
+    (rw (put .put-rows .kept .1 .1 .0, put .put-rows .ensures) at (c .before .before .finish .ensures))
 
 pub deliver-spec : {M : Type 1} → statement M
 deliver-spec =
     tie.close
     (tie.spec
-    tally-requires
+    weigh-rows-requires
     verdict-requires
     refuse-requires
     same-length
     returns
-    put-terms-requires
+    put-rows-requires
     finish-requires
     same-length-2
     returns-2)

@@ -1,13 +1,13 @@
--- `multiply::put_terms` meets its contract: the rows so far stand in their places.
+-- `results::put_rows` meets its contract: the rows so far stand in their places.
 use mathlib.Core.Path.{_≡_, refl, _∙_}
 use Prim.Native.Nat.{_-_, _≤_}
 use lib.ListN.{length}
 use native.Mathlib.Omega.{arith}
 use Rattle.lent.specs.Rows.{rowsAt}
-use Rattle.multiply.proofs.Delivering.{Placing, placing-goes, placing-ends}
+use Rattle.results.proofs.Delivering.{Placing, placing-goes, placing-ends}
 use borrow.Author.Needs.{needs}
-use Rattle.multiply.proofs.put_terms.Statement.{statement}
-use Rattle.multiply.proofs.put_terms.Tie as tie
+use Rattle.results.proofs.put_rows.Statement.{statement}
+use Rattle.results.proofs.put_rows.Tie as tie
 
 abbrev Inv-loop : tie.InvT-loop
 Inv-loop work n out₀ i₀ out i = (i ≤ n) × Placing work n i out × (length out ≡ length out₀)
@@ -52,8 +52,8 @@ same-length c = c .before .loop .inv .2
 returns : tie.Need-returns Inv-loop μ-loop
 returns c = let v = c .before .loop in placing-ends _ _ (v .i) (v .out) (v .inv .1) (v .inv .0) (omega arith)
 
-pub put-terms-spec : {M : Type 1} → statement M
-put-terms-spec =
+pub put-rows-spec : {M : Type 1} → statement M
+put-rows-spec =
     tie.close
     (tie.spec
     Inv-loop

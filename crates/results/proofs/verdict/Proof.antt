@@ -1,9 +1,9 @@
--- `lincomb::verdict` meets its contract: 10 before 9 before 11.
-use Rattle.lincomb.proofs.Results.{too-many, too-heavy, too-long, none-late}
+-- `results::verdict` meets its contract: 10 before 9 before 11.
+use Rattle.results.proofs.Results.{too-many, too-heavy, too-long, none-late}
 use native.Mathlib.Omega.{arith}
 use borrow.Author.Needs.{needs}
-use Rattle.lincomb.proofs.verdict.Statement.{statement}
-use Rattle.lincomb.proofs.verdict.Tie as tie
+use Rattle.results.proofs.verdict.Statement.{statement}
+use Rattle.results.proofs.verdict.Tie as tie
 
 returns : tie.Need-returns
 returns c = too-many _ _ _ (c .if1 .taken)

@@ -1,9 +1,9 @@
--- `lincomb::open_pair` meets its contract: the first record, the second, then 6.
+-- `results::open_operands` meets its contract: the first record, the second, then 6.
 use mathlib.Core.Path.{_∙_}
-use Rattle.lincomb.proofs.Results.{first-refused, second-refused, other-modes, both-open}
+use Rattle.results.proofs.Results.{first-refused, second-refused, other-modes, both-open}
 use borrow.Author.Needs.{needs}
-use Rattle.lincomb.proofs.open_pair.Statement.{statement}
-use Rattle.lincomb.proofs.open_pair.Tie as tie
+use Rattle.results.proofs.open_operands.Statement.{statement}
+use Rattle.results.proofs.open_operands.Tie as tie
 
 check-requires : tie.Need-check-requires
 check-requires c κs = search needs
@@ -46,8 +46,8 @@ returns-4 c =
     let at-check = at-if1 .before .before in
     both-open _ _ _ (at-check .check .ensures) (at-if1 .if1 .left) _ (at-check2 .check2 .ensures) (at-if2 .if2 .left) (c .if3 .left)
 
-pub open-pair-spec : {M : Type 1} → statement M
-open-pair-spec =
+pub open-operands-spec : {M : Type 1} → statement M
+open-operands-spec =
     tie.close
     (tie.spec
     check-requires

@@ -1,10 +1,10 @@
--- `multiply::tally` meets its contract: what is weighed, with what is left, makes the whole.
+-- `results::weigh_rows` meets its contract: what is weighed, with what is left, makes the whole.
 use Prim.Native.Nat.{_-_, _≤_}
 use native.Mathlib.Omega.{arith}
-use Rattle.multiply.proofs.Delivering.{Weighing, weighing-starts, weighing-goes, weighing-ends}
+use Rattle.results.proofs.Delivering.{Weighing, weighing-starts, weighing-goes, weighing-ends}
 use borrow.Author.Needs.{needs}
-use Rattle.multiply.proofs.tally.Statement.{statement}
-use Rattle.multiply.proofs.tally.Tie as tie
+use Rattle.results.proofs.weigh_rows.Statement.{statement}
+use Rattle.results.proofs.weigh_rows.Tie as tie
 
 abbrev Inv-loop : tie.InvT-loop
 Inv-loop work n w₀ i₀ w i = (i ≤ n) × Weighing work n w i
@@ -41,8 +41,8 @@ loop-again c =
 returns : tie.Need-returns Inv-loop μ-loop
 returns c = let v = c .before .loop in weighing-ends (c .before .before .before .args .work .now) _ _ (v .i) (v .inv .1) (omega arith)
 
-pub tally-spec : {M : Type 1} → statement M
-tally-spec =
+pub weigh-rows-spec : {M : Type 1} → statement M
+weigh-rows-spec =
     tie.close
     (tie.spec
     Inv-loop

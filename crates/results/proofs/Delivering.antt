@@ -16,10 +16,10 @@ use Rattle.record.specs.Layout.{termsIn}
 use Rattle.record.proofs.Checking.{weight-front}
 use Rattle.record.proofs.Columns.{terms-more, terms-all}
 use Rattle.record.proofs.Weights.{Weighs, weighs-start, weighs-more}
-use Rattle.lincomb.specs.Results.{resultRefusal}
-use Rattle.lincomb.specs.Tallies.{Tallied}
-use Rattle.lincomb.specs.declared.Tally.{Tally}
-use Rattle.lincomb.proofs.Results.{verdict-same}
+use Rattle.results.specs.Results.{resultRefusal}
+use Rattle.results.specs.Tallies.{Tallied}
+use Rattle.results.specs.declared.Tally.{Tally}
+use Rattle.results.proofs.Results.{verdict-same}
 
 -- ---- weighed one by one: w so far, the rows from the i-th on to come
 

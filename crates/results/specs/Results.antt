@@ -1,6 +1,5 @@
--- Calls of two records that write a record: what refuses them, and their whole output.
+-- Calls that write a record: what refuses two operands and a result, and the whole output.
 use Prim.Native.Nat.{ℕ, _^_}
-use mathlib.Core.Bool.{cond}
 use mathlib.Core.List.{List}
 use lib.Dec.{eqb, leb}
 use lib.ListN.{length}
@@ -10,14 +9,14 @@ use Rattle.modes.specs.Answers.{none, modesDiffer, resultTooHeavy, tooManyTerms
 use Rattle.lent.specs.Outputs.{Output}
 use Rattle.record.specs.Terms.{weight}
 use Rattle.record.specs.Layout.{modesOf, countOf, termsOf}
-use Rattle.modes.specs.Refusals.{need, orElse}
-use Rattle.record.specs.Refusals.{refusalOf}
+use Rattle.modes.specs.Refusals.{need, orElse, unless}
+use Rattle.record.specs.Operands.{Operand, readAs}
 use Rattle.record.specs.Outputs.{roomRefusal, recordOutput}
-use Rattle.lincomb.specs.declared.Opened.{Opened}
+use Rattle.results.specs.declared.Opened.{Opened}
 
--- the first record fully, the second likewise, then 6
-unfoldable pub pairRefusal : List ℕ → List ℕ → Refusal
-pairRefusal a b = orElse (refusalOf 1 a) (orElse (refusalOf 2 b) (need (eqb (modesOf a) (modesOf b)) modesDiffer))
+-- the first operand fully, the second likewise, then 6
+abbrev pub operandsRefusal : Operand → Operand → Refusal
+operandsRefusal a b = orElse (a .refusal) (orElse (b .refusal) (need (eqb (a .modes) (b .modes)) modesDiffer))
 
 -- a result of n terms and weight w, for an output of room bytes: 10, 9, 11
 unfoldable pub resultRefusal : ℕ → ℕ → ℕ → Refusal
@@ -43,5 +42,5 @@ standing a b =
       «right_weight» = weight (termsOf b);
     }
 
-unfoldable pub openedOf : List ℕ → List ℕ → Opened
-openedOf a b = cond (eqb ((pairRefusal a b) .number) 0) (standing a b) (shut (pairRefusal a b))
+abbrev pub openedOf : List ℕ → List ℕ → Opened
+openedOf a b = unless (operandsRefusal (readAs 1 a) (readAs 2 b)) shut (standing a b)

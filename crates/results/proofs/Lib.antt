@@ -1,0 +1,3 @@
+pub mod Results
+pub mod Delivering
+pub mod Unique
