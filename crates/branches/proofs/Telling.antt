@@ -4,16 +4,17 @@ use mathlib.Core.List.{List}
 use Prim.Native.Nat.{ℕ, _+_, _*_, _^_, _≤_, _<_}
 use native.Mathlib.Omega.{arith}
 use borrow.Author.Tests.{ne-eqb, le-leb, lt-leb}
+use Rattle.record.specs.Operands.{readAs}
 use Rattle.modes.specs.declared.Refusal.{Refusal}
-use Rattle.modes.specs.Answers.{refusal, none}
+use Rattle.modes.specs.Answers.{refusal, none, rowsDoNotFit}
 use Rattle.record.specs.Layout.{termsIn}
-use Rattle.modes.proofs.Refusals.{or-first, or-second}
+use Rattle.modes.proofs.Refusals.{or-first, or-second, unless-so, unless-not}
 use Rattle.results.specs.Results.{operandsRefusal, openedOf}
 use Rattle.results.specs.declared.Opened.{Opened}
-use Rattle.results.proofs.Results.{Opens, opens, shuts, sound}
+use Rattle.results.proofs.Results.{Opens, opens, shuts}
+use Rattle.record.proofs.Accepted.{sound}
 use Rattle.pairs.specs.Products.{branchesOfAll}
 use Rattle.record.specs.Reading.{Holds}
-use Rattle.record.proofs.Accepted.{sound}
 use Rattle.multiply.specs.Answers.{workRefusal}
 use Rattle.branches.specs.Ceiling.{most, upTo}
 use Rattle.branches.specs.Branches.{counted, uncounted, branchesIn, branchesRefusal, branchesTold}

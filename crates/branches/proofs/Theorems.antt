@@ -6,6 +6,8 @@ use Prim.Native.Nat.{ℕ, _+_}
 use native.Mathlib.Nat.{add-zero}
 use lib.Dec.{eqb}
 use borrow.Author.Tests.{eqb-false}
+use Rattle.modes.proofs.Refusals.{not-refused}
+use Rattle.record.specs.Operands.{readAs}
 use Rattle.record.specs.Layout.{termsOf}
 use Rattle.pairs.specs.Products.{allBranches}
 use Rattle.multiply.specs.Answers.{workRefusal}

@@ -2,6 +2,7 @@
 use mathlib.Core.Path.{_≡_}
 use mathlib.Core.List.{List}
 use Prim.Native.Nat.{ℕ}
+use Rattle.record.specs.Operands.{readAs}
 use Rattle.modes.proofs.Unique.{one}
 use Rattle.branches.specs.Branches.{branchesTold}
 use Rattle.branches.specs.declared.BranchCounts.{BranchCounts}

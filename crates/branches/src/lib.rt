@@ -4,6 +4,7 @@ use modes::Term;
 ghost use mathlib.Core.Path.{_≡_};
 ghost use Prim.Native.Nat.{_+_, _^_, _≤_};
 ghost use lib.Count.{ones};
+ghost use Rattle.record.specs.Operands.{readAs};
 ghost use Rattle.record.specs.Layout.{termsIn};
 ghost use Rattle.pairs.specs.Products.{branchesOf, branchesWith, branchesOfAll};
 ghost use Rattle.record.specs.Reading.{Holds};

@@ -18,13 +18,12 @@ use Rattle.record.specs.Layout.{modesOf, termsOf}
 use Rattle.record.specs.Refusals.{refusalOf}
 use Rattle.record.specs.Coefficients.{coeffOf}
 use Rattle.record.specs.Canonical.{Canonical}
-use Rattle.modes.proofs.Refusals.{or-second, unless-not}
+use Rattle.modes.proofs.Refusals.{or-second, unless-not, not-refused as answered}
 use Rattle.record.proofs.Accepted.{accepted-canonical, accepted-none}
 use Rattle.record.proofs.Inverse.{Small, same-bytes}
 use Rattle.record.proofs.Coefficients.{same-terms}
 use Rattle.record.proofs.SameElements.{none-outside, same-coefficient}
 use Rattle.normal.proofs.Words.{same-or-not}
-use Rattle.modes.proofs.Refusals.{not-refused as answered}
 use Rattle.results.specs.Results.{operandsRefusal}
 use Rattle.results.proofs.Results.{first-fine, second-fine, same-modes}
 use Rattle.compare.specs.Comparison.{differing, named, refusedComparison, comparedOf}

@@ -8,7 +8,6 @@ ghost use Rattle.record.specs.Operands.{readAs};
 ghost use Rattle.normal.specs.Normal.{dropZeros};
 ghost use Rattle.lincomb.specs.Merging.{onward};
 ghost use Rattle.record.specs.Reading.{Sound};
-ghost use Rattle.record.specs.Reading.{Sound};
 ghost use Rattle.compare.specs.Comparison.{ahead, named, refusedComparison, comparedOf};
 ghost use Rattle.compare.specs.Finding.{withTerm};
 

@@ -4,6 +4,7 @@ use mathlib.Core.Bool.{true, false}
 use mathlib.Core.List.{List, [], _∷_}
 use Prim.Native.Nat.{ℕ, _-_, _^_}
 use lib.IntN.{ℤ, pos, negsuc}
+use Rattle.record.specs.Operands.{readAs}
 use Rattle.modes.specs.declared.Term.{Term}
 use Rattle.modes.specs.Answers.{rowsDoNotFit, outputTooShort}
 use Rattle.lent.specs.Outputs.{Output, refusedOutput, filledOutput}

@@ -3,6 +3,7 @@ ghost use mathlib.Core.Path.{_≡_};
 ghost use mathlib.Core.Bool.{cond};
 ghost use mathlib.Core.List.{[], _∷_};
 ghost use lib.ListN.{length};
+ghost use Rattle.record.specs.Operands.{readAs};
 ghost use Rattle.products.specs.Apply.{applied};
 ghost use Rattle.products.specs.Product.{multiplied};
 ghost use Rattle.lincomb.specs.Sums.{added, subtracted};

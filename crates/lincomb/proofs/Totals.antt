@@ -4,13 +4,13 @@ use mathlib.Core.Bool.{Bool, true, false, cond, _&&_}
 use mathlib.Core.List.{List, [], _∷_, map}
 use Prim.Native.Nat.{ℕ}
 use lib.Dec.{eqb}
-use lib.IntN.{ℤ, pos, _+ℤ_, +ℤ-idl, +ℤ-idr, +ℤ-assoc}
+use lib.IntN.{ℤ, _+ℤ_, +ℤ-idl, +ℤ-idr, +ℤ-assoc}
 use Rattle.modes.specs.Sums.{sumOf}
 use Rattle.modes.specs.declared.Term.{Term}
 use Rattle.modes.proofs.Sums.{exchange, sum-map}
-use Rattle.products.specs.PhaseRule.{Outcome, gone, went, term}
-use Rattle.products.specs.Operators.{signed, adds, part, element}
-use Rattle.products.proofs.Signs.{signed-zero}
+use Rattle.products.specs.PhaseRule.{went, term}
+use Rattle.products.specs.Operators.{signed, part, element}
+use Rattle.products.proofs.Signs.{where-signed, adds-signed}
 use Rattle.record.specs.Terms.{before}
 use Rattle.record.specs.Coefficients.{coeffIn, coeffOf}
 use Rattle.normal.specs.Normal.{join}
@@ -38,18 +38,9 @@ module _ (f : Term → ℤ) (additive : Additive f) where
 
 -- ---- signs
 
-signed-twice : (s r : Bool) (z : ℤ) → signed s (signed r z) ≡ signed r (signed s z)
-signed-twice true true z = refl
-signed-twice true false z = refl
-signed-twice false r z = refl
-
 pub sum-turn : (f : Term → ℤ) (minus : Bool) → ((t : Term) → f (turn minus t) ≡ signed minus (f t)) → (ts : List Term)
     → sumOf f (map (turn minus) ts) ≡ signed minus (sumOf f ts)
 sum-turn f minus h ts = sum-map f (turn minus) ts ∙ sum-signed (λ t. f (turn minus t)) f minus h ts
-
-where-signed : (b s : Bool) (z : ℤ) → cond b (signed s z) (pos 0) ≡ signed s (cond b z (pos 0))
-where-signed true s z = refl
-where-signed false s z = sym (signed-zero s)
 
 -- ---- coefficients
 
@@ -60,11 +51,6 @@ pub coeff-turn : (c a : ℕ) (minus : Bool) (ts : List Term) → coeffOf c a (ma
 coeff-turn c a minus = sum-turn (coeffIn c a) minus (λ t. where-signed (eqb (t .ann) a && eqb (t .cre) c) minus (t .coeff))
 
 -- ---- elements
-
-pub adds-signed : (bra : ℕ) (minus : Bool) (z : ℤ) (o : Outcome) → adds bra (signed minus z) o ≡ signed minus (adds bra z o)
-adds-signed bra minus z gone = sym (signed-zero minus)
-adds-signed bra minus z (went w s) =
-    ap (λ (x : ℤ). cond (eqb w bra) x (pos 0)) (signed-twice s minus z) ∙ where-signed (eqb w bra) minus (signed s z)
 
 pub element-turn : (bra ket : ℕ) (minus : Bool) (ts : List Term) → element bra ket (map (turn minus) ts) ≡ signed minus (element bra ket ts)
 element-turn bra ket minus =

@@ -26,9 +26,7 @@ use Rattle.results.specs.Results.{operandsRefusal, resultOf, openedOf}
 use Rattle.results.specs.declared.Opened.{Opened}
 use Rattle.results.proofs.Results.{Opens, opens, shuts}
 use Rattle.record.proofs.Accepted.{sound}
-use Rattle.record.proofs.Outputs.{refused-earlier}
 use Rattle.record.specs.Reading.{Holds}
-use Rattle.record.proofs.Accepted.{sound}
 use Rattle.joins.specs.Collected.{Collected}
 use Rattle.joins.specs.KeyWeights.{Light}
 use Rattle.pairs.specs.Products.{allRows, allBranches}

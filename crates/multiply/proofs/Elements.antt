@@ -14,8 +14,7 @@ use Rattle.products.specs.Operators.{signed, adds, part, element}
 use Rattle.products.specs.Product.{rowsTimes}
 use Rattle.products.proofs.ProductActs.{product-acts}
 use Rattle.record.specs.Canonical.{Inside}
-use Rattle.products.proofs.Signs.{signed-add, signed-zero}
-use Rattle.lincomb.proofs.Totals.{adds-signed}
+use Rattle.products.proofs.Signs.{signed-add, signed-zero, adds-signed}
 use Rattle.pairs.specs.Products.{pairRows, rowsWith, allRows, pairInSuccession, inSuccession}
 
 -- ---- the other order's part: nothing, or with its sign

@@ -7,6 +7,7 @@ use native.Mathlib.Nat.{lt-of-lt-of-le}
 use lib.IntN.{ℤ, negℤ, _+ℤ_, _*ℤ_, +ℤ-idr}
 use lib.ListN.{length, take}
 use lib.Pow.{pow-mono}
+use Rattle.record.specs.Operands.{readAs}
 use Rattle.modes.specs.declared.Term.{Term}
 use Rattle.modes.specs.declared.Written.{Written}
 use Rattle.modes.specs.Answers.{none}

@@ -1,14 +1,16 @@
 -- Signs of numbers; and the sign of one term after another, by bilinearity.
-use mathlib.Core.Path.{_≡_, refl}
-use mathlib.Core.Bool.{Bool, true, false}
+use mathlib.Core.Path.{_≡_, refl, sym, ap, _∙_}
+use mathlib.Core.Bool.{Bool, true, false, cond}
 use Prim.Native.Nat.{ℕ, zero, suc}
+use lib.Dec.{eqb}
 use lib.IntN.{ℤ, pos, negsuc, natAbs, _+ℤ_, negℤ-negℤ, negℤ-+ℤ}
+use Rattle.products.specs.PhaseRule.{Outcome, gone, went}
 use Rattle.modes.specs.Bools.{_⊕_}
 use Rattle.modes.specs.Words.{Modes, _△_}
 use Rattle.modes.specs.Counts.{oddExchanges}
 use Rattle.modes.proofs.Bools.{parity-sum}
 use Rattle.modes.proofs.Sets.{odd-exchanges-△-l, odd-exchanges-△-r}
-use Rattle.products.specs.Operators.{signed}
+use Rattle.products.specs.Operators.{signed, adds}
 
 pub signed-zero : (s : Bool) → signed s (pos 0) ≡ pos 0
 signed-zero true = refl
@@ -30,6 +32,21 @@ unfolding _⊕_
 signed-signed true true z = negℤ-negℤ z
 signed-signed true false z = refl
 signed-signed false t z = refl
+
+-- a sign goes through what a coefficient adds
+signed-swap : (s r : Bool) (z : ℤ) → signed s (signed r z) ≡ signed r (signed s z)
+signed-swap true true z = refl
+signed-swap true false z = refl
+signed-swap false r z = refl
+
+pub where-signed : (b s : Bool) (z : ℤ) → cond b (signed s z) (pos 0) ≡ signed s (cond b z (pos 0))
+where-signed true s z = refl
+where-signed false s z = sym (signed-zero s)
+
+pub adds-signed : (bra : ℕ) (minus : Bool) (z : ℤ) (o : Outcome) → adds bra (signed minus z) o ≡ signed minus (adds bra z o)
+adds-signed bra minus z gone = sym (signed-zero minus)
+adds-signed bra minus z (went w s) =
+    ap (λ (x : ℤ). cond (eqb w bra) x (pos 0)) (signed-swap s minus z) ∙ where-signed (eqb w bra) minus (signed s z)
 
 -- one term on k: all that depends on k is `oddExchanges k` of the modes that flip
 pub one-sign : (n : ℕ) (k a c : Modes) → oddExchanges n k a ⊕ oddExchanges n (k △ a) c ≡ oddExchanges n a c ⊕ oddExchanges n k (a △ c)

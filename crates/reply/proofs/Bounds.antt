@@ -1,6 +1,6 @@
 -- The numbers of a refusal that an answer may have: so small that its line is short, and 11 only where the longest record does not fit.
 use mathlib.Core.Path.{_≡_, refl}
-use mathlib.Core.Bool.{Bool, true, false, cond}
+use mathlib.Core.Bool.{Bool, true, false, cond, not}
 use mathlib.Core.List.{List, [], _∷_}
 use Prim.Native.Nat.{ℕ, suc, _+_, _*_, _^_, _≤_, _<_}
 use native.Mathlib.Omega.{arith}
@@ -8,18 +8,19 @@ use lib.Dec.{eqb, leb}
 use lib.IntN.{natAbs}
 use lib.ListN.{length, length-append}
 use borrow.Author.Tests.{leb-true, leb-false}
+use Rattle.record.specs.Operands.{readAs}
 use Rattle.modes.specs.declared.Term.{Term}
 use Rattle.modes.specs.declared.Refusal.{Refusal}
-use Rattle.modes.specs.Answers.{refusal, none}
+use Rattle.modes.specs.Answers.{refusal, none, modesDiffer, productTooHeavy, rowsDoNotFit, outputTooShort, tooManyTerms, resultTooHeavy}
 use Rattle.lent.specs.Outputs.{Output, refusedOutput, filledOutput}
 use Rattle.record.specs.Terms.{before, weight}
 use Rattle.record.specs.Layout.{laidOut, encode, modesOf, countOf, termsOf, recordLength}
-use Rattle.modes.specs.Refusals.{orElse}
+use Rattle.modes.specs.Refusals.{orElse, need, unless}
 use Rattle.modes.specs.Spaces.{inside}
 use Rattle.record.specs.Refusals.{termRefusal, termsRefusal, refusalOf}
 use Rattle.record.proofs.Header.{laid}
 use Rattle.record.proofs.Reading.{length-terms}
-use Rattle.modes.proofs.Refusals.{or-first}
+use Rattle.modes.proofs.Refusals.{or-first, either-way}
 use Rattle.results.specs.Results.{operandsRefusal, resultRefusal}
 use Rattle.record.specs.Outputs.{recordOutput}
 use Rattle.decimals.proofs.Decimals.{decimal-length}
@@ -49,9 +50,9 @@ module _ {room : ℕ} where
   fine : Lawful room none
   fine = plain 0 0 0 (omega arith) (omega arith) (omega arith)
 
-  unless : (s : Bool) (f : Refusal) → Lawful room f → Lawful room (cond s none f)
-  unless true f h = fine
-  unless false f h = h
+  lawful-need : (s : Bool) (f : Refusal) → Lawful room f → Lawful room (need s f)
+  lawful-need true f h = fine
+  lawful-need false f h = h
 
   lawful-or : (r s : Refusal) → Lawful room r → Lawful room s → Lawful room (orElse r s)
   unfolding orElse
@@ -62,7 +63,7 @@ module _ {room : ℕ} where
       go false = h
 
   -- a first test, and what is looked at only once it has passed
-  lawful-test : (s : Bool) (f later : Refusal) → (f .number ≡ 0 → ⊥) → Lawful room f → (s ≡ true → Lawful room later) → Lawful room (orElse (cond s none f) later)
+  lawful-test : (s : Bool) (f later : Refusal) → (f .number ≡ 0 → ⊥) → Lawful room f → (s ≡ true → Lawful room later) → Lawful room (orElse (need s f) later)
   lawful-test true f later n h k = lawful-or none later fine (k refl)
   lawful-test false f later n h k = rw (or-first f later n) h
 
@@ -71,13 +72,9 @@ module _ {room : ℕ} where
   module _ (o : ℕ) (ho : o ≤ 2) where
     lawful-term : (m i : ℕ) (up : Bool) (t : Term) → i ≤ 2048 → Lawful room (termRefusal o m i up t)
     unfolding termRefusal
-    lawful-term m i up t hi = go (inside m (t .cre) (t .ann)) up (eqb (natAbs (t .coeff)) 0)
-      where
-        go : (x y z : Bool) → Lawful room (cond x (cond y (cond z (refusal 4 o i) none) (refusal 3 o i)) (refusal 2 o i))
-        go true true true = plain 4 o i (omega arith) ho hi
-        go true true false = fine
-        go true false z = plain 3 o i (omega arith) ho hi
-        go false y z = plain 2 o i (omega arith) ho hi
+    lawful-term m i up t hi =
+        lawful-or (need (inside m (t .cre) (t .ann)) (refusal 2 o i)) _ (lawful-need (inside m (t .cre) (t .ann)) (refusal 2 o i) (plain 2 o i (omega arith) ho hi))
+        (lawful-or (need up (refusal 3 o i)) _ (lawful-need up (refusal 3 o i) (plain 3 o i (omega arith) ho hi)) (lawful-need (not (eqb (natAbs (t .coeff)) 0)) (refusal 4 o i) (plain 4 o i (omega arith) ho hi)))
 
     lawful-terms : (m i : ℕ) (up : Term → Bool) (ts : List Term) → i + length ts ≤ 2048 → Lawful room (termsRefusal o m i up ts)
     unfolding termsRefusal
@@ -91,44 +88,40 @@ module _ {room : ℕ} where
         lawful-test (laidOut l) (refusal 1 o 0) _ (λ z. absurd (omega arith)) (plain 1 o 0 (omega arith) ho (omega arith))
         (λ e. lawful-or (termsRefusal o (modesOf l) 0 (λ _. true) (termsOf l)) _
         (lawful-terms (modesOf l) 0 (λ _. true) (termsOf l) (omega (arith, laid l e .few, length-terms l (countOf l))))
-        (unless (leb (weight (termsOf l)) (2 ^ 60)) (refusal 5 o 0) (plain 5 o 0 (omega arith) ho (omega arith))))
+        (lawful-need (leb (weight (termsOf l)) (2 ^ 60)) (refusal 5 o 0) (plain 5 o 0 (omega arith) ho (omega arith))))
 
   -- ---- a call
 
   lawful-result : (n w : ℕ) → Lawful room (resultRefusal room n w)
   unfolding resultRefusal
   lawful-result n w =
-      lawful-test (leb n 2048) (refusal 10 0 0) _ (λ z. absurd (omega arith)) (plain 10 0 0 (omega arith) (omega arith) (omega arith))
-      (λ e. lawful-or (cond (leb w (2 ^ 60)) none (refusal 9 0 0)) _ (unless (leb w (2 ^ 60)) (refusal 9 0 0) (plain 9 0 0 (omega arith) (omega arith) (omega arith)))
+      lawful-test (leb n 2048) tooManyTerms _ (λ z. absurd (omega arith)) (plain 10 0 0 (omega arith) (omega arith) (omega arith))
+      (λ e. lawful-or (need (leb w (2 ^ 60)) resultTooHeavy) _ (lawful-need (leb w (2 ^ 60)) resultTooHeavy (plain 9 0 0 (omega arith) (omega arith) (omega arith)))
       (longer (leb (recordLength n) room) refl (leb-true n 2048 e)))
     where
-      longer : (s : Bool) → leb (recordLength n) room ≡ s → n ≤ 2048 → Lawful room (cond s none (refusal 11 0 0))
+      longer : (s : Bool) → leb (recordLength n) room ≡ s → n ≤ 2048 → Lawful room (need s outputTooShort)
       longer true e h = fine
       longer false e h = record { number = omega arith; operand = omega arith; place = omega arith; eleven = λ _. omega (arith, leb-false (recordLength n) room e) }
 
   lawful-pair : (a b : List ℕ) → Lawful room (operandsRefusal (readAs 1 a) (readAs 2 b))
   lawful-pair a b =
       lawful-or (refusalOf 1 a) _ (lawful-record 1 (omega arith) a)
-      (lawful-or (refusalOf 2 b) _ (lawful-record 2 (omega arith) b) (unless (eqb (modesOf a) (modesOf b)) (refusal 6 0 0) (plain 6 0 0 (omega arith) (omega arith) (omega arith))))
+      (lawful-or (refusalOf 2 b) _ (lawful-record 2 (omega arith) b) (lawful-need (eqb (modesOf a) (modesOf b)) modesDiffer (plain 6 0 0 (omega arith) (omega arith) (omega arith))))
 
   lawful-weight : (v w : ℕ) → Lawful room (weightRefusal v w)
   unfolding weightRefusal
-  lawful-weight v w = unless (leb (v * w) (2 ^ 60)) (refusal 8 0 0) (plain 8 0 0 (omega arith) (omega arith) (omega arith))
+  lawful-weight v w = lawful-need (leb (v * w) (2 ^ 60)) productTooHeavy (plain 8 0 0 (omega arith) (omega arith) (omega arith))
 
   lawful-work : (work branches : ℕ) → Lawful room (workRefusal work branches)
   unfolding workRefusal
-  lawful-work work branches = unless (leb (24 * branches) work) (refusal 7 0 0) (plain 7 0 0 (omega arith) (omega arith) (omega arith))
+  lawful-work work branches = lawful-need (leb (24 * branches) work) rowsDoNotFit (plain 7 0 0 (omega arith) (omega arith) (omega arith))
 
-  lawful-output : (branches : ℕ) (r : Refusal) (m : ℕ) (ts : List Term) → Lawful room r → Lawful room ((recordOutput room branches r m ts) .answer .refusal)
-  lawful-output branches r m ts h = go (eqb (r .number) 0)
-    where
-      go : (s : Bool) → Lawful room ((cond s (filledOutput room branches (encode m ts)) (refusedOutput room r)) .answer .refusal)
-      go true = fine
-      go false = h
+  lawful-output : (r : Refusal) (o : Output) → o .answer .refusal ≡ none → Lawful room r → Lawful room ((unless r (refusedOutput room) o) .answer .refusal)
+  lawful-output r o e h = either-way r (refusedOutput room) o (λ x. Lawful room (x .answer .refusal)) (λ z. rw e fine) (λ k. h)
 
   lawful-commutator : (work : ℕ) (a b : List ℕ) → Lawful room ((commutatorOf work room (readAs 1 a) (readAs 2 b)) .answer .refusal)
   lawful-commutator work a b =
-      lawful-output _ _ _ _
+      lawful-output _ _ refl
       (lawful-or _ _ (lawful-or (operandsRefusal (readAs 1 a) (readAs 2 b)) _ (lawful-pair a b) (lawful-or (weightRefusal (weight (termsOf a)) (weight (termsOf b))) _ (lawful-weight _ _) (lawful-work work _)))
       (lawful-result _ _))
 

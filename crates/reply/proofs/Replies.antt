@@ -9,6 +9,10 @@ use lib.Dec.{eqb, leb}
 use lib.ListN.{length, take, drop, length-append, length-drop}
 use lib.Seq.{take-all, take-at}
 use borrow.Author.Tests.{eq-eqb, ne-eqb, le-leb, lt-leb, leb-true}
+use Rattle.pairs.specs.Products.{allRows}
+use Rattle.normal.specs.Normal.{normal}
+use Rattle.modes.proofs.Refusals.{either-way}
+use Rattle.record.specs.Operands.{readAs, Operand}
 use Rattle.modes.proofs.Bools.{and-l, and-r}
 use Rattle.modes.specs.declared.Term.{Term}
 use Rattle.modes.specs.declared.Refusal.{Refusal}
@@ -19,9 +23,8 @@ use Rattle.lent.specs.Outputs.{Output, refusedOutput, filledOutput}
 use Rattle.record.specs.Layout.{encode, totalOf}
 use Rattle.record.specs.Outputs.{recordOutput}
 use Rattle.multiply.specs.Answers.{commutatorOf, Leaves}
-use Rattle.stream.specs.Replies.{holdsFirst, answerTo, textOf, Says, Replies}
-use Rattle.stream.specs.Lines.{lineIn}
-use Rattle.reply.specs.Replies.{totalOf, holdsFirst, answerTo, textOf, Says, Replies}
+use Rattle.reply.specs.Replies.{holdsFirst, answerTo, textOf, Says, Replies, firstOf, secondOf}
+use Rattle.record.specs.Layout.{totalOf}
 use Rattle.reply.specs.Lines.{lineIn}
 
 pub leaves-as : {o q : Output} {r : Written} {x : List ℕ} {room : ℕ} {w : List ℕ} → o ≡ q → Leaves o r x room w → Leaves q r x room w
@@ -47,7 +50,7 @@ module _ (input : List ℕ) where
 
     -- the input in two parts, of which the second is all that is left
     pub answer-parts : (work room end : ℕ) → end ≡ totalOf input
-        → commutatorOf work room (take end input) (take (length input - end) (drop end input)) ≡ answerTo work room input
+        → commutatorOf work room (readAs 1 (take end input)) (readAs 2 (take (length input - end) (drop end input))) ≡ answerTo work room input
     unfolding answerTo
     answer-parts work room end e = rw (h, take-all (length input - end) (drop end input) (rw length-drop (le-refl (length input - end))), e)
 
@@ -60,16 +63,12 @@ pub data Shape (room : ℕ) : Output → Type 0 where
   refusing : (f : Refusal) → Shape room (refusedOutput room f)
   filling : (branches : ℕ) (bs : List ℕ) → Shape room (filledOutput room branches bs)
 
-result-shape : (room branches : ℕ) (r : Refusal) (m : ℕ) (ts : List Term) → Shape room (recordOutput room branches r m ts)
-result-shape room branches r m ts = go (eqb (r .number) 0)
-  where
-    go : (s : Bool) → Shape room (cond s (filledOutput room branches (encode m ts)) (refusedOutput room r))
-    go true = filling branches (encode m ts)
-    go false = refusing r
+commutator-shape : (work room : ℕ) (a b : Operand) → Shape room (commutatorOf work room a b)
+commutator-shape work room a b = either-way _ (refusedOutput room) _ (Shape room) (λ z. filling _ (encode (a .modes) (normal (allRows true true (a .terms) (b .terms))))) (λ h. refusing _)
 
 pub answer-shape : (work room : ℕ) (input : List ℕ) → Shape room (answerTo work room input)
 unfolding answerTo
-answer-shape work room input = go (holdsFirst input) _ (result-shape room _ _ _ _)
+answer-shape work room input = go (holdsFirst input) _ (commutator-shape work room (readAs 1 (firstOf input)) (readAs 2 (secondOf input)))
   where
     go : (s : Bool) (o : Output) → Shape room o → Shape room (cond s o (refusedOutput room (refusal 1 1 0)))
     go true o h = h

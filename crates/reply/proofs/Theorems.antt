@@ -9,6 +9,7 @@ use lib.Dec.{eqb}
 use lib.ListN.{length, getD, take, drop, length-append, length-take, length-drop}
 use lib.Seq.{take-all, take-at, take-append-le, drop-append-le}
 use borrow.Author.Tests.{eqb-true, eqb-false, le-leb, leb-false}
+use Rattle.record.specs.Operands.{readAs}
 use Rattle.modes.specs.declared.Refusal.{Refusal}
 use Rattle.modes.specs.Answers.{refusal, none}
 use Rattle.modes.proofs.Digits.{lt-or-ge}
@@ -26,16 +27,13 @@ use Rattle.results.specs.Results.{operandsRefusal}
 use Rattle.pairs.specs.Products.{allRows}
 use Rattle.multiply.specs.Answers.{earlyRefusal, commutatorOf}
 use Rattle.multiply.proofs.Theorems.{product-accepted, product-modes, commutator-elements}
-use Rattle.stream.specs.Lines.{refusedLine, lineIn}
-use Rattle.stream.specs.Replies.{firstOf, secondOf, holdsFirst, answerTo, textOf, replyTo}
-use Rattle.stream.specs.Reported.{Commutator, Reported, line, result}
-use Rattle.stream.proofs.Replies.{total-decides}
-use Rattle.stream.proofs.Bounds.{lawful-line, lawful-answer}
 use Rattle.reply.specs.Lines.{refusedLine, lineIn}
-use Rattle.reply.specs.Replies.{totalOf, firstOf, secondOf, holdsFirst, answerTo, textOf, replyTo, workSize, roomSize, Says}
+use Rattle.reply.specs.Replies.{firstOf, secondOf, holdsFirst, answerTo, textOf, replyTo}
 use Rattle.reply.specs.Reported.{Commutator, Reported, line, result}
 use Rattle.reply.proofs.Replies.{total-decides}
 use Rattle.reply.proofs.Bounds.{lawful-line, lawful-answer}
+use Rattle.reply.specs.Replies.{firstOf, secondOf, holdsFirst, answerTo, textOf, replyTo, workSize, roomSize, Says}
+use Rattle.record.specs.Layout.{totalOf}
 
 -- ---- the number 1
 

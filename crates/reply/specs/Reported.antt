@@ -9,8 +9,6 @@ use Rattle.products.specs.Operators.{element}
 use Rattle.record.specs.Layout.{modesOf, termsOf}
 use Rattle.record.specs.Refusals.{refusalOf}
 use Rattle.pairs.specs.Products.{inSuccession}
-use Rattle.stream.specs.Lines.{refusedLine}
-use Rattle.stream.specs.Replies.{firstOf, secondOf}
 use Rattle.reply.specs.Lines.{refusedLine}
 use Rattle.reply.specs.Replies.{firstOf, secondOf}
 

@@ -8,8 +8,6 @@ use Rattle.modes.specs.Answers.{none}
 use Rattle.lent.specs.Rows.{rowsAt}
 use Rattle.record.proofs.Outputs.{refused-late, delivers, gives-as}
 use Rattle.results.proofs.Results.{deliverable, Deliverable}
-use Rattle.record.proofs.Outputs.{refused-late}
-use Rattle.record.proofs.Outputs.{delivers}
 use Rattle.results.proofs.Delivering.{verdict-is}
 use Rattle.results.proofs.deliver.Statement.{statement}
 use Rattle.results.proofs.deliver.Tie as tie
