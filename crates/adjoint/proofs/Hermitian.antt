@@ -3,7 +3,6 @@ use mathlib.Core.Path.{_≡_, refl, sym, ap, _∙_}
 use mathlib.Core.Bool.{Bool, true, false}
 use mathlib.Core.List.{List}
 use Prim.Native.Nat.{ℕ}
-use borrow.Author.Tests.{ne-eqb}
 use Rattle.modes.proofs.Refusals.{unless-not, unless-so}
 use Rattle.modes.specs.Answers.{none}
 use Rattle.record.specs.Numbers.{sameNumbers}

@@ -1,10 +1,9 @@
 -- What the Hermitian test says of a record that it accepts: the adjoint's bytes are its own, and its elements at (bra, ket) and (ket, bra) agree.
 use mathlib.Core.Path.{_≡_, sym, ap, _∙_, refl}
-use mathlib.Core.Bool.{Bool, true, _&&_}
+use mathlib.Core.Bool.{true}
 use mathlib.Core.List.{List}
 use Prim.Native.Nat.{ℕ, _^_, _<_}
 use lib.ListN.{take}
-use borrow.Author.Tests.{eq-eqb}
 use Rattle.modes.proofs.Refusals.{not-refused}
 use Rattle.modes.specs.Answers.{none}
 use Rattle.record.specs.Operands.{readAs}

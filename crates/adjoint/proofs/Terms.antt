@@ -4,7 +4,7 @@ use mathlib.Core.Bool.{Bool, true, false, cond, _&&_}
 use mathlib.Core.List.{List, [], _∷_, map}
 use Prim.Native.Nat.{ℕ, _+_, _^_, _≤_}
 use native.Mathlib.Omega.{arith}
-use lib.IntN.{ℤ, natAbs, negℤ-negℤ, _+ℤ_, pos}
+use lib.IntN.{ℤ, natAbs, negℤ-negℤ, pos}
 use lib.ListN.{length, length-map}
 use Rattle.modes.specs.declared.Term.{Term}
 use Rattle.modes.specs.Counts.{parity, pairs}
@@ -15,7 +15,6 @@ use borrow.Author.Tests.{eqb-true}
 use Rattle.lent.proofs.RowLaws.{term-of}
 use Rattle.products.specs.Operators.{signed}
 use Rattle.products.proofs.Signs.{signed-zero, abs-signed}
-use Rattle.modes.specs.Sums.{sumOf}
 use Rattle.modes.proofs.Sums.{sum-map}
 use Rattle.record.specs.Terms.{weight}
 use Rattle.record.specs.Coefficients.{coeffIn, coeffOf}

@@ -8,10 +8,9 @@ use Rattle.modes.specs.declared.Written.{Written}
 use Rattle.modes.specs.Answers.{none}
 use Rattle.lent.specs.Outputs.{Gives}
 use Rattle.products.specs.Operators.{element}
-use Rattle.record.specs.Layout.{encode, modesOf, countOf, termsOf}
+use Rattle.record.specs.Layout.{encode, modesOf, termsOf}
 use Rattle.record.specs.Refusals.{refusalOf}
 use Rattle.record.specs.Canonical.{Canonical}
-use Rattle.record.specs.Outputs.{roomRefusal}
 use Rattle.record.proofs.Accepted.{accepted-canonical}
 use Rattle.record.proofs.Inverse.{Small, canonical-fit, decode-modes, decode-terms, encode-accepted, encode-decode}
 use Rattle.record.proofs.Outputs.{none-refused, output-record}

@@ -9,8 +9,7 @@ use Rattle.modes.specs.declared.Term.{Term}
 use Rattle.modes.specs.Counts.{parity, pairs}
 use Rattle.lent.specs.Outputs.{Output}
 use Rattle.products.specs.Operators.{signed}
-use Rattle.record.specs.Layout.{encode, modesOf, countOf, termsOf}
-use Rattle.record.specs.Refusals.{refusalOf}
+use Rattle.record.specs.Layout.{encode, modesOf, termsOf}
 use Rattle.modes.specs.Refusals.{orElse}
 use Rattle.modes.specs.Terms.{creations, annihilations}
 use Rattle.record.specs.Outputs.{roomRefusal, recordOutput}

@@ -1,11 +1,9 @@
 -- What the answer says of the product, the commutator and the anticommutator of the two records.
 use mathlib.Core.Path.{_≡_, refl, sym, ap, _∙_}
-use mathlib.Core.Bool.{Bool, true, false, cond}
+use mathlib.Core.Bool.{true, false}
 use mathlib.Core.List.{List}
 use Prim.Native.Nat.{ℕ, _+_}
 use native.Mathlib.Nat.{add-zero}
-use lib.Dec.{eqb}
-use borrow.Author.Tests.{eqb-false}
 use Rattle.modes.proofs.Refusals.{not-refused}
 use Rattle.record.specs.Operands.{readAs}
 use Rattle.record.specs.Layout.{termsOf}

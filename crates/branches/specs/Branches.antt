@@ -1,8 +1,5 @@
 -- The branches of the two products of two records, told without multiplying them out.
-use mathlib.Core.Bool.{cond}
-use mathlib.Core.List.{List}
 use Prim.Native.Nat.{ℕ, _+_, _^_}
-use lib.Dec.{eqb}
 use Rattle.modes.specs.declared.Refusal.{Refusal}
 use Rattle.modes.specs.Answers.{none}
 use Rattle.record.specs.Operands.{Operand}

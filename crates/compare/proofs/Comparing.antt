@@ -3,7 +3,6 @@ use mathlib.Core.Path.{_≡_, sym, refl}
 use mathlib.Core.Bool.{true}
 use mathlib.Core.List.{List}
 use Prim.Native.Nat.{ℕ}
-use borrow.Author.Tests.{ne-eqb}
 use Rattle.modes.specs.Answers.{none}
 use Rattle.modes.proofs.Refusals.{unless-not, unless-so}
 use Rattle.record.specs.Operands.{readAs}

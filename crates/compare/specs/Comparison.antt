@@ -1,5 +1,4 @@
 -- The comparison of two records: the terms that differ, which of them is named, and the whole answer.
-use Prim.Native.Nat.{ℕ}
 use mathlib.Core.Bool.{Bool, true, false, not, cond, _&&_, _||_}
 use mathlib.Core.List.{List, [], _∷_, _++_}
 use lib.Dec.{eqb, ltb}

@@ -1,6 +1,7 @@
 -- All numbered cases hold: by computation, and case 9 for every ket.
 use mathlib.Core.Path.{refl, ap}
 use mathlib.Core.Bool.{false}
+use Rattle.modes.specs.Refusals.{unless}
 use Rattle.modes.specs.Bools.{_⊕_}
 use Rattle.modes.specs.Words.{bit, each}
 use Rattle.modes.specs.Counts.{count, odd, oddExchanges}
@@ -18,14 +19,13 @@ use Rattle.modes.specs.Refusals.{orElse}
 use Rattle.modes.specs.Spaces.{inside}
 use Rattle.record.specs.Refusals.{termRefusal, termsRefusal, refusalOf}
 use Rattle.normal.specs.Normal.{join, insert, collect, dropZeros}
-use Rattle.results.specs.Results.{operandsRefusal, resultRefusal}
-use Rattle.record.specs.Outputs.{recordOutput}
+use Rattle.results.specs.Results.{resultRefusal}
 use Rattle.pairs.specs.Products.{pairRows, allBranches}
 use Rattle.multiply.specs.Answers.{weightRefusal, workRefusal}
 use Rattle.fermion.specs.Cases.{cases, AllHold}
 
 pub cases-hold : AllHold cases
-unfolding term ladders ladder bit odd oddExchanges each choices rowsTimes _⊕_ count sumOf bytes num numAt stored numbers sameNumbers before weight header column columns together termsIn laidOut orElse inside termRefusal termsRefusal refusalOf join insert collect dropZeros resultRefusal pairRows allBranches weightRefusal workRefusal example
+unfolding unless term ladders ladder bit odd oddExchanges each choices rowsTimes _⊕_ count sumOf bytes num numAt stored numbers sameNumbers before weight header column columns together termsIn laidOut orElse inside termRefusal termsRefusal refusalOf join insert collect dropZeros resultRefusal pairRows allBranches weightRefusal workRefusal example
 cases-hold = (
   refl,
   (

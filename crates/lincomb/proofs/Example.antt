@@ -13,8 +13,7 @@ use Rattle.modes.specs.Refusals.{orElse, unless}
 use Rattle.modes.specs.Spaces.{inside}
 use Rattle.record.specs.Refusals.{termRefusal, termsRefusal, refusalOf}
 use Rattle.normal.specs.Normal.{join, insert, collect, dropZeros}
-use Rattle.record.specs.Outputs.{recordOutput}
-use Rattle.results.specs.Results.{operandsRefusal, resultRefusal}
+use Rattle.results.specs.Results.{resultRefusal}
 use Rattle.lincomb.specs.Sums.{added, subtracted}
 
 pub twice : (added 82 (readAs 1 example) (readAs 2 example)) .bytes ≡ encode 2 (record { cre = 1; ann = 1; coeff = pos 2 } ∷ record { cre = 2; ann = 2; coeff = negsuc 1 } ∷ []) ++ zeros 2

@@ -10,10 +10,8 @@ use Rattle.modes.specs.declared.Written.{Written}
 use Rattle.lent.specs.Outputs.{Gives, refusedOutput}
 use Rattle.lent.proofs.Outputs.{gives-one}
 use Rattle.modes.proofs.Unique.{one}
-use Rattle.results.specs.Results.{openedOf, resultRefusal}
 use Rattle.lincomb.specs.Sums.{turn, added, subtracted}
 use Rattle.lincomb.specs.Merging.{onward, Pulled}
-use Rattle.results.specs.declared.Opened.{Opened}
 use Rattle.lincomb.specs.declared.Step.{Step}
 
 pub one-sum : (room : ℕ) (a b : List ℕ) (r s : Written) (x y : List ℕ) → Gives (added room (readAs 1 a) (readAs 2 b)) r x → Gives (added room (readAs 1 a) (readAs 2 b)) s y → (r ≡ s) × (x ≡ y)

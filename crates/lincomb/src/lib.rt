@@ -15,7 +15,6 @@ ghost use Rattle.lent.specs.Outputs.{Gives, filledOutput};
 ghost use Rattle.record.specs.Layout.{encode, termsIn};
 ghost use Rattle.normal.specs.Normal.{dropZeros};
 ghost use Rattle.record.specs.Reading.{Holds, Sound};
-ghost use Rattle.results.specs.Results.{shut, openedOf, resultRefusal};
 ghost use Rattle.lincomb.specs.Sums.{turn, combined, added, subtracted};
 ghost use Rattle.lincomb.specs.Merging.{onward, Pulled};
 ghost use Rattle.results.specs.Tallies.{Tallied};

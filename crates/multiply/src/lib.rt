@@ -4,17 +4,10 @@ use modes::Sign;
 use modes::Term;
 use modes::Written;
 ghost use mathlib.Core.Path.{_≡_};
-ghost use Prim.Native.Nat.{_*_, _≤_};
 ghost use lib.ListN.{length};
 ghost use Rattle.record.specs.Operands.{readAs};
-ghost use Rattle.modes.specs.Answers.{none};
 ghost use Rattle.lent.specs.Bytes.{zeros};
-ghost use Rattle.lent.specs.Rows.{rowsAt};
 ghost use Rattle.lent.specs.Outputs.{Gives};
-ghost use Rattle.record.specs.Layout.{termsIn};
-ghost use Rattle.record.specs.Reading.{Holds};
-ghost use Rattle.results.specs.Results.{resultOf};
-ghost use Rattle.results.specs.Tallies.{Tallied};
 ghost use Rattle.multiply.specs.Answers.{weightRefusal, productAnswer, productOf, commutatorOf, anticommutatorOf, Leaves};
 
 // Number 8. The product of two weights may pass 64 bits, so it is judged by a quotient.

@@ -12,9 +12,9 @@ use Rattle.record.specs.Operands.{readAs}
 use Rattle.modes.specs.declared.Term.{Term}
 use Rattle.modes.specs.declared.Refusal.{Refusal}
 use Rattle.modes.specs.Answers.{refusal, none, modesDiffer, productTooHeavy, rowsDoNotFit, outputTooShort, tooManyTerms, resultTooHeavy}
-use Rattle.lent.specs.Outputs.{Output, refusedOutput, filledOutput}
+use Rattle.lent.specs.Outputs.{Output, refusedOutput}
 use Rattle.record.specs.Terms.{before, weight}
-use Rattle.record.specs.Layout.{laidOut, encode, modesOf, countOf, termsOf, recordLength}
+use Rattle.record.specs.Layout.{laidOut, modesOf, countOf, termsOf, recordLength}
 use Rattle.modes.specs.Refusals.{orElse, need, unless}
 use Rattle.modes.specs.Spaces.{inside}
 use Rattle.record.specs.Refusals.{termRefusal, termsRefusal, refusalOf}
@@ -22,7 +22,6 @@ use Rattle.record.proofs.Header.{laid}
 use Rattle.record.proofs.Reading.{length-terms}
 use Rattle.modes.proofs.Refusals.{or-first, either-way}
 use Rattle.results.specs.Results.{operandsRefusal, resultRefusal}
-use Rattle.record.specs.Outputs.{recordOutput}
 use Rattle.decimals.proofs.Decimals.{decimal-length}
 use Rattle.multiply.specs.Answers.{weightRefusal, workRefusal, commutatorOf}
 use Rattle.reply.specs.Lines.{refusedLine}

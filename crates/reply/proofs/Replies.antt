@@ -5,7 +5,7 @@ use mathlib.Core.List.{List}
 use Prim.Native.Nat.{ℕ, _-_, _≤_, _<_}
 use native.Mathlib.Omega.{arith}
 use native.Mathlib.Nat.{le-refl, sub-zero}
-use lib.Dec.{eqb, leb}
+use lib.Dec.{leb}
 use lib.ListN.{length, take, drop, length-append, length-drop}
 use lib.Seq.{take-all, take-at}
 use borrow.Author.Tests.{eq-eqb, ne-eqb, le-leb, lt-leb, leb-true}
@@ -14,14 +14,12 @@ use Rattle.normal.specs.Normal.{normal}
 use Rattle.modes.proofs.Refusals.{either-way}
 use Rattle.record.specs.Operands.{readAs, Operand}
 use Rattle.modes.proofs.Bools.{and-l, and-r}
-use Rattle.modes.specs.declared.Term.{Term}
 use Rattle.modes.specs.declared.Refusal.{Refusal}
 use Rattle.modes.specs.declared.Written.{Written}
 use Rattle.modes.specs.Answers.{refusal}
 use Rattle.lent.specs.Bytes.{zeros}
 use Rattle.lent.specs.Outputs.{Output, refusedOutput, filledOutput}
 use Rattle.record.specs.Layout.{encode, totalOf}
-use Rattle.record.specs.Outputs.{recordOutput}
 use Rattle.multiply.specs.Answers.{commutatorOf, Leaves}
 use Rattle.reply.specs.Replies.{holdsFirst, answerTo, textOf, Says, Replies, firstOf, secondOf}
 use Rattle.record.specs.Layout.{totalOf}

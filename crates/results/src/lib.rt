@@ -2,7 +2,7 @@
 use modes::Refusal;
 use modes::Written;
 ghost use mathlib.Core.Path.{_≡_};
-ghost use Prim.Native.Nat.{_*_, _≤_, _<_, _^_};
+ghost use Prim.Native.Nat.{_*_, _≤_, _<_};
 ghost use lib.ListN.{length};
 ghost use Rattle.modes.specs.Answers.{none};
 ghost use Rattle.lent.specs.Rows.{rowsAt};
