@@ -5,6 +5,7 @@ use mathlib.Core.List.{List, [], _∷_, map}
 use Prim.Native.Nat.{ℕ, suc, _+_, _≤_, _<_}
 use native.Mathlib.Omega.{arith}
 use lib.ListN.{length, length-map}
+use Rattle.record.proofs.Order.{before-key}
 use Rattle.modes.specs.declared.Term.{Term}
 use Rattle.modes.specs.Every.{Every}
 use Rattle.modes.proofs.Every.{every-map, every-both}
@@ -13,14 +14,12 @@ use Rattle.lent.specs.Rows.{Fit}
 use Rattle.rows.specs.Terms.{at}
 use Rattle.rows.specs.Order.{key}
 use Rattle.rows.specs.Sorted.{Arranged}
-use Rattle.rows.proofs.Keys.{key-low, key-high}
 use Rattle.rows.proofs.UpTo.{every-at}
 use Rattle.rows.proofs.SortedTerms.{sum-kept, every-kept}
 use Rattle.record.specs.Terms.{before, Ascending}
 use Rattle.record.specs.Layout.{termsIn}
 use Rattle.record.specs.Canonical.{Nonzero, Canonical}
 use Rattle.record.specs.Coefficients.{coeffIn}
-use Rattle.record.proofs.Order.{Order, lower, level, order}
 use Rattle.record.proofs.Reading.{length-terms}
 use Rattle.record.proofs.Inverse.{canonical-fit}
 use Rattle.normal.proofs.Normal.{normal-is, normal-same}
@@ -39,12 +38,8 @@ rises-of (t ∷ u ∷ ts) h = onto (h 0 (omega arith)) (rises-of (u ∷ ts) (λ 
 key-level : (t u : Term) → Fit u → key t ≤ key u → before u t ≡ false
 key-level t u g h = go (before u t) refl
   where
-    by : Order u t → ⊥
-    by (lower l) = let k = key-high (u .ann) (u .cre) (t .ann) (t .cre) l (g .cre) in omega arith
-    by (level e l) = let k = key-low (u .ann) (u .cre) (t .ann) (t .cre) e l in omega arith
-
     go : (b : Bool) → before u t ≡ b → b ≡ false
-    go true e = absurd (by (order u t e))
+    go true e = absurd (omega (arith, before-key u t g e))
     go false e = refl
 
 -- ---- the adjoint terms fit their bytes

@@ -2,13 +2,13 @@
 use mathlib.Core.Path.{_≡_, refl, sym, ap, _∙_, subst}
 use mathlib.Core.Bool.{true}
 use mathlib.Core.List.{List, [], _∷_, _++_}
-use mathlib.Core.Logic.{_⊎_, inl, inr}
-use Prim.Native.Nat.{ℕ, _+_, _≤_, _<_}
+use Prim.Native.Nat.{ℕ, _+_, _≤_}
 use native.Mathlib.Omega.{arith}
 use lib.IntN.{ℤ, natAbs, _+ℤ_, +ℤ-idl, +ℤ-idr, +ℤ-assoc}
 use borrow.Author.Tests.{eq-eqb}
 use mir.Syntax.{w64}
 use mir.Val.{SFits}
+use Rattle.record.proofs.Order.{Compared, less, same, greater, before-key, compare}
 use Rattle.modes.specs.Sums.{sumOf}
 use Rattle.modes.specs.declared.Term.{Term}
 use Rattle.modes.proofs.Sums.{sum-last}
@@ -16,15 +16,12 @@ use Rattle.modes.specs.Every.{Every, none}
 use Rattle.modes.proofs.Every.{every-last}
 use Rattle.lent.specs.Rows.{Fit}
 use Rattle.rows.specs.Order.{key}
-use Rattle.modes.proofs.Digits.{lt-or-ge}
-use Rattle.rows.proofs.Keys.{key-words, key-less}
 use Rattle.products.specs.Product.{Other}
 use Rattle.record.specs.Terms.{before, Ascending, empty}
 use Rattle.record.specs.Canonical.{Nonzero}
 use Rattle.record.specs.Coefficients.{coeffIn, coeffOf}
 use Rattle.normal.specs.Normal.{join}
 use Rattle.normal.proofs.Totals.{alike-words, coeff-additive}
-use Rattle.record.proofs.Order.{lower, level, ordered}
 use Rattle.joins.specs.KeyWeights.{keyWeight}
 use Rattle.joins.specs.Steps.{Ended, dropped, stored}
 use Rattle.joins.proofs.Ends.{Under, ascending-end, under-trans, under-same, under-none}
@@ -62,18 +59,12 @@ first-in-hand x f = record {
 
 -- a row of other words that is not below x is above it
 pub comes-after : (x y : Term) → Fit x → Fit y → Other y x → key x ≤ key y → before x y ≡ true
-comes-after x y f g n h = go (lt-or-ge (key x) (key y))
+comes-after x y f g n h = go (compare x y)
   where
-    go : (key x < key y) ⊎ (key y ≤ key x) → before x y ≡ true
-    go (inl l) = by (key-less (x .ann) (x .cre) (y .ann) (y .cre) (f .cre) (g .cre) l)
-      where
-        by : (x .ann < y .ann) ⊎ ((x .ann ≡ y .ann) × (x .cre < y .cre)) → before x y ≡ true
-        by (inl p) = ordered x y (lower p)
-        by (inr p) = ordered x y (level (p .0) (p .1))
-    go (inr l) =
-        let e : key x ≡ key y = omega arith in
-        let w = key-words (x .ann) (x .cre) (y .ann) (y .cre) (f .cre) (g .cre) e in
-        absurd (n (sym (w .1)) (sym (w .0)))
+    go : Compared x y → before x y ≡ true
+    go (less k) = k
+    go (same p q) = absurd (n (sym q) (sym p))
+    go (greater k) = absurd (omega (arith, before-key y x g k))
 
 module _ (ts us : List Term) (x : Term) (s : InHand ts x us) where
   pub closed-done : (vs : List Term) → Ended ts x vs → Done vs us

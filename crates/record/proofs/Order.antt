@@ -11,6 +11,9 @@ use Rattle.modes.specs.declared.Term.{Term}
 use Rattle.modes.proofs.Bools.{and-l, and-r}
 use Rattle.modes.proofs.Digits.{lt-or-ge}
 use Rattle.modes.specs.Every.{none, more}
+use Rattle.lent.specs.Rows.{Fit}
+use Rattle.rows.specs.Order.{key}
+use Rattle.rows.proofs.Keys.{key-low, key-high}
 use Rattle.record.specs.Terms.{before, Above}
 
 -- how two terms stand to each other
@@ -31,6 +34,14 @@ pub ordered : (t u : Term) → Order t u → before t u ≡ true
 unfolding before
 ordered t u (lower h) = rw (lt-ltb _ _ h)
 ordered t u (level e h) = rw (le-ltb (t .ann) (u .ann) (omega arith), eq-eqb _ _ e, lt-ltb _ _ h)
+
+-- the order of the terms is that of their keys
+pub before-key : (t u : Term) → Fit t → before t u ≡ true → key t < key u
+before-key t u f e = go (order t u e)
+  where
+    go : Order t u → key t < key u
+    go (lower h) = key-high (t .ann) (t .cre) (u .ann) (u .cre) h (f .cre)
+    go (level p h) = key-low (t .ann) (t .cre) (u .ann) (u .cre) p h
 
 pub data Compared (t u : Term) : Type 0 where
   less : before t u ≡ true → Compared t u
