@@ -1,4 +1,4 @@
--- Branches counted as far as a ceiling: for inner functions only.
+-- Branches counted as far as a ceiling. For inner functions only.
 use Prim.Native.Nat.{ℕ, _+_}
 use mathlib.Core.Bool.{cond}
 use lib.Dec.{leb}

@@ -1,4 +1,4 @@
--- How the code goes through the terms of the difference: for inner functions only.
+-- How the code goes through the terms of the difference. For inner functions only.
 use mathlib.Core.Bool.{true, not, cond, _&&_}
 use lib.Dec.{eqb}
 use lib.IntN.{natAbs}

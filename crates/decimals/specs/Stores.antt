@@ -1,4 +1,4 @@
--- Text stored in lent bytes: for inner functions only.
+-- Text stored in lent bytes. For inner functions only.
 use mathlib.Core.Path.{_≡_}
 use mathlib.Core.List.{List}
 use Prim.Native.Nat.{ℕ, _+_}

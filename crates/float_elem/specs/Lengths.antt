@@ -1,4 +1,4 @@
--- All lists have n entries.
+-- All lists have n entries. For inner functions only.
 use mathlib.Core.Path.{_≡_}
 use mathlib.Core.List.{List}
 use Prim.Native.Nat.{ℕ}

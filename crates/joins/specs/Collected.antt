@@ -1,4 +1,4 @@
--- What is left of n rows at the front of the bytes l: k rows at the front of m, the normal form of the n rows.
+-- What is left of n rows at the front of the bytes l: k rows at the front of m, the normal form of the n rows. For inner functions only.
 use mathlib.Core.Path.{_≡_}
 use mathlib.Core.List.{List}
 use Prim.Native.Nat.{ℕ, _*_, _≤_}

@@ -1,4 +1,4 @@
--- The weight of one pair of words: the sum of the magnitudes of the terms that have them. It bounds what these terms make on the way to their sum.
+-- The weight of one pair of words: the sum of the magnitudes of the terms that have them. It bounds what these terms make on the way to their sum. For inner functions only.
 use mathlib.Core.List.{List}
 use Prim.Native.Nat.{ℕ, _<_, _^_}
 use lib.IntN.{natAbs}

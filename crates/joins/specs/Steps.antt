@@ -1,4 +1,4 @@
--- What the steps of the joining leave.
+-- What the steps of the joining leave. For inner functions only.
 use mathlib.Core.Path.{_≡_}
 use mathlib.Core.List.{List, [], _∷_, _++_}
 use Prim.Native.Nat.{ℕ, _+_, _*_, _≤_, _<_}

@@ -1,4 +1,4 @@
--- How the code goes through two records in step: for inner functions only.
+-- How the code goes through two records in step. For inner functions only.
 use mathlib.Core.Path.{_≡_}
 use Prim.Native.Nat.{ℕ, _+_, _≤_, _<_}
 use mathlib.Core.Bool.{Bool, cond}

@@ -1,4 +1,4 @@
--- Rows gathered at the front of the work: for inner functions only.
+-- Rows gathered at the front of the work. For inner functions only.
 use mathlib.Core.Path.{_≡_}
 use mathlib.Core.List.{List, [], _∷_, _++_}
 use Prim.Native.Nat.{ℕ, _+_, _*_, _≤_, _<_}

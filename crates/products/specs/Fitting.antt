@@ -1,4 +1,4 @@
--- The rows of the product of a helper's words, and when the code may write them.
+-- The rows of the product of a helper's words, and when the code may write them. For inner functions only.
 use mathlib.Core.Path.{_≡_}
 use mathlib.Core.Bool.{true}
 use mathlib.Core.List.{List}

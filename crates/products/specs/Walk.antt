@@ -1,4 +1,4 @@
--- The walk over the branching modes that are left, lowest first: the rows that it writes from a row that keeps none of them.
+-- The walk over the branching modes that are left, lowest first: the rows that it writes from a row that keeps none of them. For inner functions only.
 use mathlib.Core.Path.{_≡_}
 use mathlib.Core.Bool.{true}
 use mathlib.Core.List.{List, [], _∷_, _++_}

@@ -1,4 +1,4 @@
--- The canonical form: the terms that a record on m modes may hold. One operator has one canonical form.
+-- The canonical form: the terms that a record on m modes may hold. One operator has one canonical form. For inner functions only.
 use Prim.Native.Nat.{ℕ, _^_, _≤_, _<_}
 use mathlib.Core.Path.{_≡_}
 use mathlib.Core.List.{List}

@@ -1,4 +1,4 @@
--- What is read of a record is a term of its list, whatever the layout.
+-- What is read of a record is a term of its list, whatever the layout. For inner functions only.
 use Prim.Native.Nat.{ℕ, _+_, _^_, _≤_}
 use mathlib.Core.Path.{_≡_}
 use mathlib.Core.List.{List, _∷_}

@@ -1,4 +1,4 @@
--- A weight that is summed as far as the ceiling: exact up to 2^60, and some number above it where the sum is above it.
+-- A weight that is summed as far as the ceiling: exact up to 2^60, and some number above it where the sum is above it. For inner functions only.
 use Prim.Native.Nat.{ℕ, _+_, _^_}
 use mathlib.Core.Bool.{cond}
 use lib.Dec.{leb}

@@ -1,4 +1,4 @@
--- A count of terms, with their weight as far as the ceiling.
+-- A count of terms, with their weight as far as the ceiling. For inner functions only.
 use mathlib.Core.Path.{_≡_}
 use Prim.Native.Nat.{_^_, _≤_, _<_}
 use mathlib.Core.List.{List}

@@ -1,4 +1,4 @@
--- Lists of terms, by index.
+-- Lists of terms, by index. For inner functions only.
 use mathlib.Core.List.{List, [], _∷_, _++_}
 use Prim.Native.Nat.{ℕ, zero, suc}
 use lib.IntN.{pos}
