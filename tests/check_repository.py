@@ -36,8 +36,13 @@ def each_has_a_statement():
 
 
 def each_is_in_promises():
-    told = text("docs/PROMISES.md")
-    return [f"{path} {name}" for path, name, _ in public_functions() if f"`{name}" not in told and f"::{name}" not in told]
+    """By its crate and name, and those of the C face by their name."""
+    told, faults = text("docs/PROMISES.md") + text("docs/INNER.md"), []
+    for path, name, _ in public_functions():
+        crate = path.split("/")[1]
+        named = rf"`{name}`" if crate == "fermion" else rf"`{crate}::(?:\w+::)?{name}\("
+        faults += [] if re.search(named, told) else [f"{path} {name}"]
+    return faults
 
 
 def the_face_refuses_by_itself():
@@ -55,6 +60,121 @@ def specs_hold_definitions_only():
     return [path for path in sources("specs") if path.endswith(".antt") and re.search(r"\brefl\b|\bomega\b|\brw \(", text(path))]
 
 
+IMPORT = re.compile(r"^(?:ghost )?use Rattle·(\w+)(?:·\w+)?\.(specs|proofs)\.(\w+)\.\{([^}]*)\}", re.M)
+DEFINITION = re.compile(r"^ *(?:(?:abbrev|unfoldable) (?:pub )?|pub (?:data|record) )(\S+) (?:.+\n)+", re.M)
+INNER = "For inner functions only."
+
+
+def imports(path):
+    """Where each name that a file uses is defined: the file, and its name there."""
+    names = {}
+    for crate, kind, file, listed in IMPORT.findall(text(path)):
+        for name in listed.split(","):
+            there, _, here = name.strip().partition(" as ")
+            names[(here or there).strip("_")] = f"crates/{crate}/{kind}/{file}.antt", there.strip("_")
+    return names
+
+
+def definitions(path):
+    """The definitions of a file, each with its text, which ends at an empty line; none where there is no such file."""
+    return {found.group(1).strip("_"): found.group(0) for found in DEFINITION.finditer(text(path))} if os.path.exists(path) else {}
+
+
+def pages():
+    """The files of definitions."""
+    return [path for path in sources("specs") if path.endswith(".antt") and not path.endswith("/Lib.antt")]
+
+
+def words(code):
+    """The words of a text, without the fields that it looks at."""
+    return set(re.split(r"[\s(){};,⌜⌝«»]+", re.sub(r" ?\.[\w«»-]+", " ", code)))
+
+
+def named_theorems():
+    """(path, theorem) of those that PROMISES names with a crate and a file: `one`, `two` (crate, `File`)."""
+    for names, crate, file in re.findall(r"((?:`[^`\s]+-[^`\s]+`(?:, | and )?)+) \((\w+), `(\w+)`\)", " ".join(text("docs/PROMISES.md").split())):
+        for theorem in re.findall(r"`([^`]+)`", names):
+            yield f"crates/{crate}/proofs/{file}.antt", theorem
+
+
+def statement(path, theorem):
+    """What a theorem states: its type, and the heads of the modules that it stands in. Empty where it isn't there."""
+    code = text(path) if os.path.exists(path) else ""
+    found = re.search(rf"^( *)pub {re.escape(theorem)} :(?:.*\n)*?(?=\1(?:{re.escape(theorem)} |unfolding ))", code, re.M)
+    if not found:
+        return ""
+    said, indent = found.group(0), len(found.group(1))
+    for line in reversed(code[:found.start()].split("\n")):
+        opened = re.match(r"( *)module _", line)
+        if opened and len(opened.group(1)) < indent:
+            said, indent = said + line, len(opened.group(1))
+    return said
+
+
+def theorems_are_where_the_page_says():
+    named = list(named_theorems())
+    return [f"{path}: no {theorem}" for path, theorem in named if not statement(path, theorem)] + ([] if named else ["none named"])
+
+
+def reached():
+    """The files with a definition that the promise of an entry point rests on, or a theorem that PROMISES names with its place."""
+    headings = "".join(re.findall(r"^### .*$", text("docs/PROMISES.md"), re.M))
+    said = [(path, head[head.index("ensures"):]) for path, name, head in public_functions()
+            if path.startswith("crates/fermion/") or f"`{path.split('/')[1]}::{name}(" in headings]
+    said += [(path, statement(path, theorem)) for path, theorem in named_theorems()]
+    seen = set()
+    while said:
+        path, code = said.pop()
+        here, used = definitions(path) if path.endswith(".antt") else {}, imports(path)
+        for word in words(code):
+            there, name = used.get(word, (path, word))
+            known = here if there == path else definitions(there)
+            for defined, body in known.items():
+                if (there, defined) not in seen and (name == defined or name not in known and re.search(rf"^ +(?:pub )?{re.escape(name)} :", body, re.M)):
+                    seen.add((there, defined))
+                    said.append((there, body))
+    return {path for path, _ in seen if "/specs/" in path}
+
+
+def files_for_inner_functions_say_so():
+    """Their first line is marked exactly if no entry point's promise and no theorem named with its place rests on them."""
+    read = reached()
+    return [f"{path}: {'marked, and reached' if path in read else 'not marked, and not reached'}" for path in pages()
+            if (path in read) == text(path).split("\n")[0].endswith(INNER)]
+
+
+def the_reading_list_is_whole():
+    """The files that PROMISES tells to read, with their lines that are neither empty nor imports, and the totals."""
+    listing = text("docs/PROMISES.md").split("\n## ")[1]
+    faults, listed, total = [], set(), 0
+    for row in re.findall(r"^\| .*\d \|$", listing, re.M):
+        files = re.findall(r"`(\w+)/(\w+)` (\d+)", row)
+        for crate, file, lines in files:
+            path = f"crates/{crate}/specs/{file}.antt"
+            listed.add(path)
+            found = len([line for line in text(path).split("\n") if line and not line.startswith("use ")]) if os.path.exists(path) else None
+            if found != int(lines):
+                faults.append(f"{path}: {found} lines, not {lines}")
+        said, sum_of = int(re.findall(r"(\d+)", row.replace(",", ""))[-1]), sum(int(lines) for _, _, lines in files)
+        total += sum_of
+        if said != (sum_of if files else total):
+            faults.append(f"{row}: {sum_of if files else total} lines in all")
+    unmarked = {path for path in pages() if INNER not in text(path)}
+    return faults + [f"{path}: in the list or unmarked, and not both" for path in sorted(listed ^ unmarked)]
+
+
+def definitions_are_where_the_pages_say():
+    """Rows of `names`, then crate and `files`: each name is defined in one of these files."""
+    faults = []
+    for page in "docs/PROMISES.md", "docs/INNER.md":
+        for names, crate, files in re.findall(r"^\| (`[^|]*`) \| (\w+), ((?:`\w+`(?:, )?)+) \|", text(page), re.M):
+            known = {}
+            for file in re.findall(r"`(\w+)`", files):
+                known.update(definitions(f"crates/{crate}/specs/{file}.antt"))
+            faults += [f"{page}: {name} is not in {crate}, {files}" for name in re.findall(r"`([^`\s]+)[^`]*`", names) if name not in known]
+    return faults
+
+
 def edits_say_what_they_are():
     return [path for path in glob.glob("crates/*/must-fail/*.edit") if text(path).startswith(("file:", "old:", "new:"))]
 
@@ -69,6 +189,10 @@ def nothing_is_left_lying_in_the_root():
 def the_readme_names_the_toolchain():
     version = subprocess.run(["rt", "version"], capture_output=True, text=True).stdout.strip()
     return [] if version and version in text("README.md") else [f"README.md does not have {version!r}"]
+
+
+def the_readme_names_every_crate():
+    return [path for path in sorted(glob.glob("crates/*")) if f"\n| `{path}` |" not in text("README.md")]
 
 
 def the_readme_shows_what_its_commands_print():
@@ -128,8 +252,9 @@ def layout_is_the_formatters():
 
 TESTS = [
     each_has_a_statement, each_is_in_promises, the_face_refuses_by_itself, the_header_is_the_face,
-    specs_hold_definitions_only, edits_say_what_they_are, nothing_is_left_lying_in_the_root,
-    the_readme_names_the_toolchain,
+    specs_hold_definitions_only, files_for_inner_functions_say_so, the_reading_list_is_whole,
+    definitions_are_where_the_pages_say, theorems_are_where_the_page_says, edits_say_what_they_are, nothing_is_left_lying_in_the_root,
+    the_readme_names_the_toolchain, the_readme_names_every_crate,
     the_readme_shows_what_its_commands_print, what_documents_once_said_wrongly_is_right, links_lead_somewhere,
     layout_is_the_formatters,
 ]
