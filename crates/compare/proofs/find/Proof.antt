@@ -1,8 +1,10 @@
 -- `compare::find` meets its contract. The invariant: what is found, with what is left, names what the whole names.
 use mathlib.Core.Path.{refl}
 use mathlib.Core.Bool.{true}
-use Prim.Native.Nat.{_+_, _-_, _≤_}
+use mathlib.Core.List.{List}
+use Prim.Native.Nat.{ℕ, _+_, _-_, _≤_}
 use native.Mathlib.Omega.{arith}
+use Rattle.modes.specs.declared.Term.{Term}
 use Rattle.lincomb.specs.Merging.{onward}
 use Rattle.lincomb.proofs.Merging.{spent}
 use Rattle.compare.proofs.Finding.{Finding, finding-goes, finding-ends-some, finding-ends-none}
@@ -36,9 +38,13 @@ loop-less c = search needs
 
 loop-again : tie.Need-loop-again Inv-loop μ-loop
 loop-again c =
-    let s = c .before .before .next .ensures in
-    let v = c .before .before .before .before .loop .inv in
-    (s .left-in, s .right-in, finding-goes _ _ _ _ _ _ (v .2) (s .front) (c .with-term .ensures))
+    let at-next = c .before .before in
+    let at-loop = at-next .before .before in
+    let a = at-loop .before .before .before .args in
+    let s = at-next .next .ensures in
+    let v = at-loop .loop .inv in
+    let left-at : ℕ → ℕ → List Term = onward true (a .a .now) (a .na) (a .b .now) (a .nb) in
+    (s .left-in, s .right-in, finding-goes _ (left-at (at-loop .loop .i) (at-loop .loop .j)) (left-at (at-next .next .result .left) (at-next .next .result .right)) _ _ _ (v .2) (s .front) (c .with-term .ensures))
 
 returns : tie.Need-returns Inv-loop μ-loop
 returns c =

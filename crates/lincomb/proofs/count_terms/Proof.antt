@@ -1,7 +1,9 @@
 -- `lincomb::count_terms` meets its contract. The invariant: what is counted, with what is left, makes the whole.
 use borrow.Author.Needs.{needs}
+use mathlib.Core.List.{List}
 use Prim.Native.Nat.{_+_, _-_, _≤_}
 use native.Mathlib.Omega.{arith}
+use Rattle.modes.specs.declared.Term.{Term}
 use Rattle.lincomb.specs.Merging.{onward}
 use Rattle.lincomb.proofs.Merging.{spent}
 use Rattle.lincomb.proofs.Tallying.{Tallying, tally-starts, tally-goes, tally-ends}
@@ -43,12 +45,17 @@ loop-less c = search needs
 
 loop-again : tie.Need-loop-again Inv-loop μ-loop
 loop-again c =
-    let s = c .before .before .before .before .next .ensures in
-    let v = c .before .before .before .before .before .before .loop .inv in (
+    let at-next = c .before .before .before .before in
+    let at-loop = at-next .before .before in
+    let a = at-loop .before .before .before .args in
+    let s = at-next .next .ensures in
+    let v = at-loop .loop .inv in
+    let step = at-next .next .result in
+    let rest : List Term = onward (a .sign .0) (a .a .now) (a .na) (a .b .now) (a .nb) (step .left) (step .right) in (
       s .left-in,
       s .right-in,
       omega (arith, c .before .kept .ensures .1, v .2, s .on),
-      tally-goes _ _ _ _ _ (v .3) _ (s .front) _ _ _ (c .before .before .size .ensures .0) (c .before .kept .ensures .0) (c .heavier .ensures),
+      tally-goes _ _ rest _ _ (v .3) _ (s .front) _ _ _ (c .before .before .size .ensures .0) (c .before .kept .ensures .0) (c .heavier .ensures),
     )
 
 returns : tie.Need-returns Inv-loop μ-loop

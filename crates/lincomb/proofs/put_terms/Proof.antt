@@ -1,9 +1,11 @@
 -- `lincomb::put_terms` meets its contract. The invariant: the terms so far stand in their places, and the rest is to come.
 use borrow.Author.Needs.{needs}
 use mathlib.Core.Path.{_≡_, refl, sym, _∙_}
+use mathlib.Core.List.{List}
 use Prim.Native.Nat.{_+_, _-_, _≤_}
 use native.Mathlib.Omega.{arith}
 use lib.ListN.{length}
+use Rattle.modes.specs.declared.Term.{Term}
 use Rattle.lincomb.specs.Merging.{onward}
 use Rattle.lincomb.proofs.Merging.{spent}
 use Rattle.lincomb.proofs.Writing.{Writing, writing-starts, writing-ends, leaves-out, has-place, writes}
@@ -36,9 +38,12 @@ put-term-requires c κs =
     let at-size = c .before .before in
     let at-next = at-size .before .before in
     let at-loop = at-next .before .before in
-    let p = at-loop .before .before .before .before .pre .1 in
+    let at-start = at-loop .before .before .before .before in
+    let p = at-start .pre .1 in
+    let a = at-start .args in
+    let rest : List Term = onward (a .sign .0) (a .a .now) (a .na) (a .b .now) (a .nb) (at-next .next .result .left) (at-next .next .result .right) in
     let v = at-loop .loop .inv in
-    (omega (arith, v .3, p .1), has-place _ _ _ (p .0) _ _ (v .2) _ _ (at-next .next .ensures .front) (λ e. c .before .if1 .taken (at-size .size .ensures .0 ∙ e)))
+    (omega (arith, v .3, p .1), has-place _ _ _ (p .0) _ _ (v .2) _ rest (at-next .next .ensures .front) (λ e. c .before .if1 .taken (at-size .size .ensures .0 ∙ e)))
 
 add-k : tie.Need-add-k Inv-loop μ-loop
 add-k c =
@@ -46,8 +51,11 @@ add-k c =
     let at-size = at-if1 .before in
     let at-next = at-size .before .before in
     let at-loop = at-next .before .before in
-    let p = at-loop .before .before .before .before .pre .1 in
-    omega (arith, has-place _ _ _ (p .0) _ _ (at-loop .loop .inv .2) _ _ (at-next .next .ensures .front) (λ e. at-if1 .if1 .taken (at-size .size .ensures .0 ∙ e)))
+    let at-start = at-loop .before .before .before .before in
+    let p = at-start .pre .1 in
+    let a = at-start .args in
+    let rest : List Term = onward (a .sign .0) (a .a .now) (a .na) (a .b .now) (a .nb) (at-next .next .result .left) (at-next .next .result .right) in
+    omega (arith, has-place _ _ _ (p .0) _ _ (at-loop .loop .inv .2) _ rest (at-next .next .ensures .front) (λ e. at-if1 .if1 .taken (at-size .size .ensures .0 ∙ e)))
 
 loop-less : tie.Need-loop-less Inv-loop μ-loop
 loop-less c = search needs
@@ -60,10 +68,12 @@ loop-again c =
     let at-loop = at-next .before .before in
     let at-start = at-loop .before .before .before .before in
     let p = at-start .pre .1 in
+    let a = at-start .args in
+    let rest : List Term = onward (a .sign .0) (a .a .now) (a .na) (a .b .now) (a .nb) (at-next .next .result .left) (at-next .next .result .right) in
     let s = at-next .next .ensures in (
       s .left-in,
       s .right-in,
-      writes _ _ _ (p .0) _ _ (at-loop .loop .inv .2) _ _ (s .front) (λ e. at-if1 .if1 .taken (at-size .size .ensures .0 ∙ e)) _ (c .before .before .put-term .ensures),
+      writes _ _ _ (p .0) _ _ (at-loop .loop .inv .2) _ rest (s .front) (λ e. at-if1 .if1 .taken (at-size .size .ensures .0 ∙ e)) _ (c .before .before .put-term .ensures),
       c .before .before .put-term .kept .0 ∙ at-loop .loop .inv .3,
     )
 
@@ -74,10 +84,13 @@ loop-again-2 : tie.Need-loop-again-2 Inv-loop μ-loop
 loop-again-2 c =
     let at-next = c .before .before .before in
     let at-loop = at-next .before .before in
-    let p = at-loop .before .before .before .before .pre .1 in
+    let at-start = at-loop .before .before .before .before in
+    let p = at-start .pre .1 in
+    let a = at-start .args in
+    let rest : List Term = onward (a .sign .0) (a .a .now) (a .na) (a .b .now) (a .nb) (at-next .next .result .left) (at-next .next .result .right) in
     let v = at-loop .loop .inv in
     let s = at-next .next .ensures in
-    (s .left-in, s .right-in, leaves-out _ _ _ (p .0) _ _ (v .2) _ _ (s .front) (sym (c .before .size .ensures .0) ∙ c .if1 .left), v .3)
+    (s .left-in, s .right-in, leaves-out _ _ _ (p .0) _ _ (v .2) _ rest (s .front) (sym (c .before .size .ensures .0) ∙ c .if1 .left), v .3)
 
 same-length : tie.Need-same-length Inv-loop μ-loop
 same-length c = c .before .loop .inv .3

@@ -21,7 +21,7 @@ returns : tie.Need-returns
 returns c =
     let made = c .before .before .before .before .before .before .before .before .produce in
     let done = c .before .before .finish .ensures in
-    record { output = record { answer = done .0 ∙ made .ensures .answer; bytes = made .ensures .bytes }; clean = done .1 ∙ ap zeros (made .kept .1 .1 .1 .1 .0) }
+    record { output = record { answer = rw (made .ensures .answer) at (done .0); bytes = made .ensures .bytes }; clean = done .1 ∙ ap zeros (made .kept .1 .1 .1 .1 .0) }
 
 pub multiply-spec : {M : Type 1} → statement M
 multiply-spec = tie.close (tie.spec produce-requires finish-requires same-length same-length-2 returns)

@@ -1,6 +1,6 @@
 -- `pairs::append_all` meets its contract: of the rows of all pairs, some are there and the rest is to come.
 use mathlib.Core.Path.{_∙_}
-use mathlib.Core.List.{[], _++_}
+use mathlib.Core.List.{List, [], _++_}
 use Prim.Native.Nat.{_-_, _≤_}
 use native.Mathlib.Omega.{arith}
 use lib.ListN.{drop}
@@ -45,8 +45,10 @@ returns c =
     let s = c .before .before .before .before .before .before .before .before .before .before .before .before in
     let v = c .before .before .before .before .before .before .before .before .loop in
     let step = c .before .before .before .before .append-with in
-    let next = by-front _++_ [] (λ (t : Term). rowsWith (s .args .both) (s .args .sign .0) t (termsIn (s .args .b .now) (s .args .nb))) (c .before .before .before .before .before .before .read-term .ensures) in
-    from-nothing _ (s .args .work .now) _ _ (progress-over _ _ (s .args .work .now) _ (v .work) (v .at) (v .inv .1) _ _ next (step .last .1 .1 .0) (step .result) (step .kept .1 .1 .0) (step .ensures) (c .if1 .taken))
+    let got = c .before .before .before .before .before .before .read-term in
+    let with-b : Term → List Term = λ t. rowsWith (s .args .both) (s .args .sign .0) t (termsIn (s .args .b .now) (s .args .nb)) in
+    let next = by-front _++_ [] with-b (got .ensures) in
+    from-nothing _ (s .args .work .now) _ _ (progress-over _ _ (s .args .work .now) _ (v .work) (v .at) (v .inv .1) (with-b (got .result)) _ next (step .last .1 .1 .0) (step .result) (step .kept .1 .1 .0) (step .ensures) (c .if1 .taken))
 
 add-i : tie.Need-add-i Inv-loop μ-loop
 add-i c = search needs
@@ -59,9 +61,11 @@ loop-again c =
     let s = c .before .before .before .before .before .before .before .before .before .before .before .before in
     let v = c .before .before .before .before .before .before .before .before .loop in
     let step = c .before .before .before .before .append-with in
-    let next = by-front _++_ [] (λ (t : Term). rowsWith (s .args .both) (s .args .sign .0) t (termsIn (s .args .b .now) (s .args .nb))) (c .before .before .before .before .before .before .read-term .ensures) in (
+    let got = c .before .before .before .before .before .before .read-term in
+    let with-b : Term → List Term = λ t. rowsWith (s .args .both) (s .args .sign .0) t (termsIn (s .args .b .now) (s .args .nb)) in
+    let next = by-front _++_ [] with-b (got .ensures) in (
       omega (arith, c .before .before .before .before .before .before .before .loop-test),
-      progress-goes _ _ (s .args .work .now) _ (v .work) (v .at) (v .inv .1) _ _ next (step .last .1 .1 .0) (step .result) (step .kept .1 .1 .0) (step .ensures) (c .if1 .left),
+      progress-goes _ _ (s .args .work .now) _ (v .work) (v .at) (v .inv .1) (with-b (got .result)) _ next (step .last .1 .1 .0) (step .result) (step .kept .1 .1 .0) (step .ensures) (c .if1 .left),
     )
 
 same-length-2 : tie.Need-same-length-2 Inv-loop μ-loop

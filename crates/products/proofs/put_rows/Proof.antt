@@ -1,15 +1,19 @@
 -- `products::put_rows` meets its contract: the walk's rows are the product's, and where no mode branches there is one.
 use mathlib.Core.Path.{_≡_, ap, _∙_}
 use mathlib.Core.List.{List}
+use Prim.Native.Nat.{ℕ}
 use lib.IntN.{ℤ}
 use lib.ListN.{length}
 use mir.Syntax.{w64}
 use mir.Val.{SFits, toZ, ofZ}
 use mir.Facts.{toZ-ofZ}
+use Rattle.modes.specs.Words.{bit}
+use Rattle.modes.specs.Counts.{count}
 use Rattle.modes.specs.declared.Term.{Term}
 use Rattle.lent.specs.Bytes.{put}
 use Rattle.lent.specs.Rows.{rowsBytes}
 use Rattle.products.specs.Product.{rowTimes}
+use Rattle.products.specs.Walk.{walk}
 use Rattle.products.specs.declared.ProductHelper.{ProductHelper}
 use Rattle.products.proofs.Multiplied.{walk-fits, walk-ends, walk-is, one-fits, one-ends, one-is}
 use borrow.Author.Needs.{needs}
@@ -58,11 +62,13 @@ same-length-2 c = search needs
 returns-2 : tie.Need-returns-2
 returns-2 c =
     let s = c .before .before .before .before .before .before .before in
-    let walked = c .before .before .do-branch .ensures in (
+    let lowest-row = c .before .before .before .before .before .lowest-row in
+    let walked = c .before .before .do-branch .ensures in
+    let filled : List Term → List ℕ = λ ts. put (s .args .out .now) (s .args .at) (rowsBytes ts) in (
       walked .0 ∙ walk-ends (s .args .helper) _ (s .fits .left .fits) (s .args .coeff) _ (length (s .args .out .now)) (s .pre .0),
-      walked .1
-          ∙ ap (λ (ts : List Term). put (s .args .out .now) (s .args .at) (rowsBytes ts))
-          (walk-is (s .args .helper) _ (s .fits .left .fits) (s .args .coeff) _ (length (s .args .out .now)) (s .pre .0) _ (lowest (s .args .helper) (s .fits .coeff) _ (c .before .before .before .before .before .lowest-row .ensures .0))),
+      _∙_ {b = filled (walk (count 64 (bit (s .args .left))) (s .args .left) (lowest-row .result))} (walked .1)
+          (ap filled
+          (walk-is (s .args .helper) _ (s .fits .left .fits) (s .args .coeff) _ (length (s .args .out .now)) (s .pre .0) _ (lowest (s .args .helper) (s .fits .coeff) _ (lowest-row .ensures .0)))),
     )
 
 pub put-rows-spec : {M : Type 1} → statement M

@@ -4,6 +4,7 @@ use native.Mathlib.Omega.{arith}
 use mathlib.Core.Path.{ap, _∙_}
 use mathlib.Core.Bool.{Bool}
 use Prim.Native.Nat.{_-_, _≤_}
+use Rattle.modes.specs.declared.Refusal.{Refusal}
 use Rattle.record.specs.Layout.{termsIn}
 use Rattle.record.specs.Refusals.{termRefusal}
 use Rattle.record.proofs.Header.{laid}
@@ -40,7 +41,8 @@ returns c =
     let at-read-term = at-follows .before in
     let at-loop = at-read-term .before .before in
     let at-start = at-loop .before .before in
-    let judged = at-term-refusal .term-refusal .ensures ∙ ap (λ (up : Bool). termRefusal (at-start .args .operand) (at-start .args .m) (at-loop .loop .i) up (at-read-term .read-term .result)) (at-follows .follows .ensures) in
+    let judge : Bool → Refusal = λ up. termRefusal (at-start .args .operand) (at-start .args .m) (at-loop .loop .i) up (at-read-term .read-term .result) in
+    let judged = _∙_ {b = judge (at-follows .follows .result)} (at-term-refusal .term-refusal .ensures) (ap judge (at-follows .follows .ensures)) in
     c .refused .ensures
     ∙ term-refused _ _ _ _ (at-start .pre .0) (at-start .pre .1) (at-start .pre .2) _ (refuses _ _ _ _ _ _ _ (at-loop .loop .inv .1) _ (at-read-term .read-term .ensures) _ judged (c .before .if1 .taken)) (c .before .if1 .taken)
 
@@ -63,7 +65,8 @@ loop-again c =
     let at-read-term = at-follows .before in
     let at-loop = at-read-term .before .before in
     let at-start = at-loop .before .before in
-    let judged = at-term-refusal .term-refusal .ensures ∙ ap (λ (up : Bool). termRefusal (at-start .args .operand) (at-start .args .m) (at-loop .loop .i) up (at-read-term .read-term .result)) (at-follows .follows .ensures) in
+    let judge : Bool → Refusal = λ up. termRefusal (at-start .args .operand) (at-start .args .m) (at-loop .loop .i) up (at-read-term .read-term .result) in
+    let judged = _∙_ {b = judge (at-follows .follows .result)} (at-term-refusal .term-refusal .ensures) (ap judge (at-follows .follows .ensures)) in
     (search needs, rw (c .heavier .ensures) (goes _ _ _ _ _ _ _ (at-loop .loop .inv .1) _ (at-read-term .read-term .ensures) _ judged (c .before .before .if1 .left) _ (c .before .size .ensures .0)))
 
 refused-requires-2 : tie.Need-refused-requires-2 Inv-loop μ-loop
