@@ -35,7 +35,7 @@ use Rattle.adjoint.proofs.Writing.{every-drop, take-one-more}
 
 -- ---- one of the terms
 
-pub every-among : {P : Term → Type 0} (t : Term) (ts : List Term) → Every P ts → Among t ts → P t
+every-among : {P : Term → Type 0} (t : Term) (ts : List Term) → Every P ts → Among t ts → P t
 every-among t [] none a = absurd a
 every-among t (u ∷ ts) (more p ps) (inl e) = rw e at p
 every-among t (u ∷ ts) (more p ps) (inr a) = every-among t ts ps a
@@ -44,7 +44,7 @@ among-every : (P : Term → Type 0) (ts : List Term) → ((t : Term) → Among t
 among-every P [] h = none
 among-every P (t ∷ ts) h = more (h t (inl refl)) (among-every P ts (λ u a. h u (inr a)))
 
-pub drop-among : (ts us : List Term) (t : Term) (i : ℕ) → drop i ts ≡ t ∷ us → Among t ts
+drop-among : (ts us : List Term) (t : Term) (i : ℕ) → drop i ts ≡ t ∷ us → Among t ts
 drop-among ts us t i e = every-drop ts us t i (among-every (λ u. Among u ts) ts (λ u a. a)) e
 
 not-itself : (t : Term) → before t t ≡ true → ⊥

@@ -23,10 +23,10 @@ pub hermitian-refused : (l : List ℕ) (c : Checked) → c ≡ checkedOf 1 l →
 hermitian-refused l c e h = rw (refusal-told 1 l c e) (sym (unless-so (refusalOf 1 l) notTested _ (refused 1 l c e h)))
 
 module _ (l : List ℕ) (c : Checked) (k : Accepted 1 l c) (small : Small l) where
-  pub same-bytes : AdjointsAmong (termsOf l) (termsOf l) → adjointBytes l ≡ l
+  same-bytes : AdjointsAmong (termsOf l) (termsOf l) → adjointBytes l ≡ l
   same-bytes p = ap (encode (modesOf l)) (among-same (termsOf l) (k .canonical .ascending) (k .canonical .nonzero) p) ∙ encode-decode 1 l small (k .number)
 
-  pub bytes-among : adjointBytes l ≡ l → AdjointsAmong (termsOf l) (termsOf l)
+  bytes-among : adjointBytes l ≡ l → AdjointsAmong (termsOf l) (termsOf l)
   bytes-among e = same-among (termsOf l) (k .canonical .ascending) (k .canonical .nonzero) (sym (bytes-terms l (k .number)) ∙ ap termsOf e)
 
   told : (b : Bool) → Tells b (AdjointsAmong (termsOf l) (termsOf l)) → b ≡ sameNumbers (adjointBytes l) l

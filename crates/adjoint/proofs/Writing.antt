@@ -13,7 +13,7 @@ use Rattle.adjoint.specs.Adjoint.{adjointTerm}
 
 -- ---- the term at an index
 
-pub none-at : (i : ℕ) (t : Term) (us : List Term) → drop i [] ≡ t ∷ us → ⊥
+none-at : (i : ℕ) (t : Term) (us : List Term) → drop i [] ≡ t ∷ us → ⊥
 none-at i t us e =
     let z : _≡_ {A = List Term} [] (t ∷ us) = sym (drop-nil i) ∙ e in let w : _≡_ {A = ℕ} 0 1 = cc in omega arith
 

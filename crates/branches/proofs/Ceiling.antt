@@ -17,11 +17,11 @@ unfolding upTo
 up-over n h = rw (lt-leb n most h)
 
 -- n is a count as it is, or above the ceiling
-pub data Reach (n : ℕ) : Type 0 where
+data Reach (n : ℕ) : Type 0 where
   exact : n ≤ most → upTo n ≡ n → Reach n
   over : most < n → upTo n ≡ most + 1 → Reach n
 
-pub reach : (n : ℕ) → Reach n
+reach : (n : ℕ) → Reach n
 reach n = go (leb n most) refl
   where
     go : (b : Bool) → leb n most ≡ b → Reach n

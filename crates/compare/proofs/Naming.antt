@@ -21,7 +21,7 @@ pub record Lists (D : ℕ → ℕ → Type 0) (ts : List Term) : Type 0 where
 
 -- ---- the foremost
 
-pub foremost-of : (P : Term → Type 0) (t : Term) (ts : List Term) → Every P (t ∷ ts) → P (foremost t ts)
+foremost-of : (P : Term → Type 0) (t : Term) (ts : List Term) → Every P (t ∷ ts) → P (foremost t ts)
 unfolding foremost
 foremost-of P t [] (more p none) = p
 foremost-of P t (u ∷ ts) (more p (more q h)) = foremost-of P (cond (ahead u t) u t) ts (more (go (ahead u t)) h)
@@ -30,7 +30,7 @@ foremost-of P t (u ∷ ts) (more p (more q h)) = foremost-of P (cond (ahead u t)
     go true = q
     go false = p
 
-pub none-ahead : (t : Term) (ts : List Term) → Every (λ x. ahead x (foremost t ts) ≡ false) (t ∷ ts)
+none-ahead : (t : Term) (ts : List Term) → Every (λ x. ahead x (foremost t ts) ≡ false) (t ∷ ts)
 unfolding foremost
 none-ahead t [] = more (not-itself t) none
 none-ahead t (u ∷ ts) = go (ahead u t) refl (none-ahead (cond (ahead u t) u t) ts)

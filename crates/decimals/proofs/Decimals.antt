@@ -19,11 +19,11 @@ unfolding digits
 enough (suc j) (suc k) n h g =
     ⊎-elim (λ small. rw (lt-ltb n 10 small)) (λ big. rw (le-ltb n 10 big, enough j k (n / 10) (omega arith) (omega arith))) (lt-or-ge n 10)
 
-pub decimal-digit : (n : ℕ) → n < 10 → decimal n ≡ (48 + n) ∷ []
+decimal-digit : (n : ℕ) → n < 10 → decimal n ≡ (48 + n) ∷ []
 unfolding decimal digits
 decimal-digit n h = rw (lt-ltb n 10 h) (ap (λ (d : ℕ). (48 + d) ∷ []) (omega arith))
 
-pub decimal-more : (n : ℕ) → 10 ≤ n → decimal n ≡ decimal (n / 10) ++ ((48 + n % 10) ∷ [])
+decimal-more : (n : ℕ) → 10 ≤ n → decimal n ≡ decimal (n / 10) ++ ((48 + n % 10) ∷ [])
 unfolding decimal digits
 decimal-more n h =
     rw (le-ltb n 10 h) (ap (λ (l : List ℕ). l ++ ((48 + n % 10) ∷ [])) (enough n (suc (n / 10)) (n / 10) (omega arith) (omega arith)))
@@ -37,7 +37,7 @@ decimal-length (suc k) n h =
     (lt-or-ge n 10)
 
 -- a number of 64 bits has at most 20 digits
-pub twenty : (n : ℕ) → n < 2 ^ 64 → length (decimal n) ≤ 20
+twenty : (n : ℕ) → n < 2 ^ 64 → length (decimal n) ≤ 20
 twenty n h = decimal-length 19 n (lt-of-lt-of-le h (lit≤ tt))
 
 -- what the stores of the digits give

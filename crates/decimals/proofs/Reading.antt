@@ -25,7 +25,7 @@ pub decimal-reads : (n : ℕ) → readOn 0 (decimal n) ≡ n
 unfolding decimal
 decimal-reads n = digits-read (suc n) n (omega arith)
 
-pub decimal-one : (m n : ℕ) → decimal m ≡ decimal n → m ≡ n
+decimal-one : (m n : ℕ) → decimal m ≡ decimal n → m ≡ n
 decimal-one m n e = sym (decimal-reads m) ∙ ap (readOn 0) e ∙ decimal-reads n
 
 -- no byte is below the digit 0

@@ -18,11 +18,11 @@ neg-fits (pos (suc n)) h = record { sfits = omega arith }
 neg-fits (negsuc n) h = record { sfits = h }
 
 -- -1 - k, at k and at -(k + 1)
-pub less-one : (k : ℕ) → negsuc 0 -ℤ pos k ≡ negsuc k
+less-one : (k : ℕ) → negsuc 0 -ℤ pos k ≡ negsuc k
 less-one zero = refl
 less-one (suc k) = simp zero-add
 
-pub flip : (k : ℕ) → negsuc 0 -ℤ negsuc k ≡ pos k
+flip : (k : ℕ) → negsuc 0 -ℤ negsuc k ≡ pos k
 flip k = simp (le-ltb (suc k) 1 (omega arith), add-sub-one)
   where
     add-sub-one : suc k - 1 ≡ k
@@ -45,7 +45,7 @@ pub up-fits : (z : ℤ) → SFits w64 z → ltZ z (pos 0) ≡ false → T (nonNe
 up-fits (pos n) f e = (tt, record { fits = omega (arith, f .sfits) })
 up-fits (negsuc n) f e = let w : true ≡ false = e in absurd (true≢false w)
 
-pub up : (z : ℤ) → ltZ z (pos 0) ≡ false → z ≡ pos (mag z)
+up : (z : ℤ) → ltZ z (pos 0) ≡ false → z ≡ pos (mag z)
 up (pos n) e = refl
 up (negsuc n) e = let w : true ≡ false = e in absurd (true≢false w)
 
@@ -64,7 +64,7 @@ pub abs-up : (z : ℤ) → ltZ z (pos 0) ≡ false → mag z ≡ natAbs z
 abs-up z e = sym (ap natAbs (up z e))
 
 -- the upper half of the bits
-pub high : (x : ℕ) → 2 ^ 63 ≤ x → x < 2 ^ 64 → toZ w64 (18446744073709551615 - x) ≡ pos (18446744073709551615 - x)
+high : (x : ℕ) → 2 ^ 63 ≤ x → x < 2 ^ 64 → toZ w64 (18446744073709551615 - x) ≡ pos (18446744073709551615 - x)
 high x h k = toZ-pos w64 (omega arith)
 
 pub high-fits : (x : ℕ) → 2 ^ 63 ≤ x → x < 2 ^ 64 → SFits w64 (negsuc 0 -ℤ toZ w64 (18446744073709551615 - x))

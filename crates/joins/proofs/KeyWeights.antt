@@ -1,19 +1,16 @@
--- The weight of one pair of words bounds its coefficient, of fewer rows it is no more, and it is at most the whole weight.
+-- The weight of one pair of words bounds its coefficient, and of fewer rows it is no more.
 use mathlib.Core.Path.{_≡_}
-use mathlib.Core.Bool.{Bool, true, false, cond, _&&_}
 use mathlib.Core.List.{List, [], _∷_, _++_}
-use Prim.Native.Nat.{ℕ, zero, suc, _+_, _^_, _≤_, _<_}
+use Prim.Native.Nat.{ℕ, zero, suc, _+_, _≤_}
 use native.Mathlib.Omega.{arith}
-use lib.Dec.{eqb}
-use lib.IntN.{ℤ, pos, natAbs}
+use lib.IntN.{natAbs}
 use Rattle.modes.specs.Sums.{sumOf}
 use Rattle.modes.specs.declared.Term.{Term}
 use Rattle.modes.proofs.Sums.{natural-numbers, by-append}
 use Rattle.lent.specs.Rows.{rowsAt}
 use Rattle.integers.proofs.SignedNumbers.{abs-sum}
-use Rattle.record.specs.Terms.{weight}
 use Rattle.record.specs.Coefficients.{coeffIn, coeffOf}
-use Rattle.joins.specs.KeyWeights.{keyWeight, Light}
+use Rattle.joins.specs.KeyWeights.{keyWeight}
 
 pub coeff-below : (cre ann : ℕ) (ts : List Term) → natAbs (coeffOf cre ann ts) ≤ keyWeight cre ann ts
 unfolding sumOf keyWeight
@@ -30,22 +27,6 @@ weight-append cre ann = by-append natural-numbers (λ t. natAbs (coeffIn cre ann
 pub weight-end : (cre ann : ℕ) (ts : List Term) (t : Term) → keyWeight cre ann (ts ++ (t ∷ [])) ≡ keyWeight cre ann ts + natAbs (coeffIn cre ann t)
 unfolding keyWeight
 weight-end cre ann ts t = let g = weight-append cre ann ts (t ∷ []) in omega arith
-
--- terms whose whole weight is small enough can be joined
-pub light-enough : (ts : List Term) → weight ts < 2 ^ 63 → Light ts
-unfolding keyWeight weight
-light-enough ts h cre ann = let g = below ts in omega arith
-  where
-    one : (b : Bool) (z : ℤ) → natAbs (cond b z (pos 0)) ≤ natAbs z
-    one true z = omega arith
-    one false z = omega arith
-
-    below : (us : List Term) → keyWeight cre ann us ≤ weight us
-    below [] = omega arith
-    below (t ∷ us) =
-        let g = below us in
-        let k = one (eqb (t .ann) ann && eqb (t .cre) cre) (t .coeff) in
-        omega arith
 
 pub weight-up : (cre ann : ℕ) (l : List ℕ) (o i n : ℕ) → i ≤ n → keyWeight cre ann (rowsAt l o i) ≤ keyWeight cre ann (rowsAt l o n)
 unfolding keyWeight rowsAt

@@ -41,13 +41,6 @@ num-below (b ∷ bs) h =
     let q : num bs < 256 ^ length bs = num-below bs (λ k. h (suc k)) in
     omega arith
 
--- what makes a byte of a number one
-pub byte-below : (n x k : ℕ) → getD (bytes n x) k 0 < 256
-unfolding bytes
-byte-below zero x k = omega arith
-byte-below (suc n) x zero = omega arith
-byte-below (suc n) x (suc k) = byte-below n (x / 256) k
-
 -- a number of n + m bytes is one of n bytes and, above it, one of m
 pub bytes-append : (n m x : ℕ) → bytes (n + m) x ≡ bytes n x ++ bytes m (x / 256 ^ n)
 unfolding bytes

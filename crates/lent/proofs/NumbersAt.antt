@@ -44,7 +44,7 @@ module _ (l : List ℕ) (o : ℕ) (bs : List ℕ) (fits : o + length bs ≤ leng
   num-before n p h =
       ap num (sym (part-of p n (put l o bs)) ∙ ap (drop p) (take-put l o bs fits (p + n) h) ∙ part-of p n l)
 
-  pub num-after : (n p : ℕ) → o + length bs ≤ p → numAt n (put l o bs) p ≡ numAt n l p
+  num-after : (n p : ℕ) → o + length bs ≤ p → numAt n (put l o bs) p ≡ numAt n l p
   unfolding numAt
   num-after n p h = ap (λ (z : List ℕ). num (take n z)) (drop-put l o bs fits p h)
 

@@ -5,17 +5,17 @@ use Prim.Native.Nat.{ℕ, zero, suc, _+_, _-_, _*_, _≤_, _<_}
 use native.Mathlib.Omega.{arith}
 use native.Mathlib.Nat.{zero-add, add-zero, suc-add, mul-suc}
 use lib.IntN.{ℤ}
-use lib.ListN.{length, getD, take, drop, length-append}
-use lib.Seq.{drop-drop, take-add, length-take-le}
+use lib.ListN.{length, take, drop, length-append}
+use lib.Seq.{length-take-le}
 use mir.Syntax.{w64}
-use mir.Val.{Fits, toZ, ofZ}
-use mir.Facts.{toZ-ofZ, ofZ-toZ, fits-ofZ, sfits-toZ}
+use mir.Val.{toZ, ofZ}
+use mir.Facts.{toZ-ofZ, fits-ofZ}
 use Rattle.modes.specs.declared.Term.{Term}
 use Rattle.lent.specs.Bytes.{bytes, num, numAt, wordAt, put, putWord}
 use Rattle.modes.specs.Every.{Every, none, more}
 use Rattle.lent.specs.Rows.{rowBytes, rowAt, putRow, rowsBytes, rowsAt, Fit}
 use Rattle.lent.proofs.Numbers.{length-bytes, num-bytes}
-use Rattle.lent.proofs.NumbersAt.{num-at, num-before, num-after, num-at-below, bytes-at}
+use Rattle.lent.proofs.NumbersAt.{num-at, num-before}
 use Rattle.lent.proofs.Puts.{put-join}
 
 -- three words make a term
@@ -50,7 +50,7 @@ unfolding rowsBytes
 rows-append [] b = refl
 rows-append (t ∷ a) b = ap (λ (l : List ℕ). rowBytes t ++ l) (rows-append a b) ∙ sym (append-assoc (rowBytes t) (rowsBytes a) (rowsBytes b))
 
-pub row-at : (p q : List ℕ) (o : ℕ) (t : Term) → length p ≡ o → Fit t → rowAt (p ++ (rowBytes t ++ q)) o ≡ t
+row-at : (p q : List ℕ) (o : ℕ) (t : Term) → length p ≡ o → Fit t → rowAt (p ++ (rowBytes t ++ q)) o ≡ t
 unfolding rowAt rowBytes
 row-at p q o t e f =
     let a = bytes 8 (t .ann) in
@@ -88,37 +88,25 @@ put-words l l1 l2 l3 o x t h e1 e2 e3 ex =
     ∙ ap (put l o) (append-assoc a b c))
 
 -- what was stored
-pub row-put : (l : List ℕ) (o : ℕ) (t : Term) → o ≤ length l → Fit t → rowAt (putRow l o t) o ≡ t
+row-put : (l : List ℕ) (o : ℕ) (t : Term) → o ≤ length l → Fit t → rowAt (putRow l o t) o ≡ t
 unfolding put
 row-put l o t h f = row-at (take o l) (drop (o + length (rowBytes t)) l) o t (length-take-le o l h) f
 
 -- beside a store
 module _ (l : List ℕ) (o : ℕ) (bs : List ℕ) (fits : o + length bs ≤ length l) where
-  pub row-before : (p : ℕ) → p + 24 ≤ o → rowAt (put l o bs) p ≡ rowAt l p
+  row-before : (p : ℕ) → p + 24 ≤ o → rowAt (put l o bs) p ≡ rowAt l p
   unfolding rowAt
   row-before p h = term-of (before p (omega arith)) (before (p + 8) (omega arith)) (ap (toZ w64) (before (p + 16) (omega arith)))
     where
       before : (q : ℕ) → q + 8 ≤ o → wordAt (put l o bs) q ≡ wordAt l q
       before q k = num-before l o bs fits 8 q k
 
-  pub row-after : (p : ℕ) → o + length bs ≤ p → rowAt (put l o bs) p ≡ rowAt l p
-  unfolding rowAt
-  row-after p h = term-of (after p h) (after (p + 8) (omega arith)) (ap (toZ w64) (after (p + 16) (omega arith)))
-    where
-      after : (q : ℕ) → o + length bs ≤ q → wordAt (put l o bs) q ≡ wordAt l q
-      after q k = num-after l o bs fits 8 q k
-
-  pub rows-before : (p n : ℕ) → p + 24 * n ≤ o → rowsAt (put l o bs) p n ≡ rowsAt l p n
+  rows-before : (p n : ℕ) → p + 24 * n ≤ o → rowsAt (put l o bs) p n ≡ rowsAt l p n
   unfolding rowsAt
   rows-before p zero h = refl
   rows-before p (suc n) h =
       let m : 24 * suc n ≡ 24 * n + 24 = mul-suc 24 n in
       λ i. row-before p (omega arith) i ∷ rows-before (p + 24) n (omega arith) i
-
-  pub rows-after : (p n : ℕ) → o + length bs ≤ p → rowsAt (put l o bs) p n ≡ rowsAt l p n
-  unfolding rowsAt
-  rows-after p zero h = refl
-  rows-after p (suc n) h = λ i. row-after p h i ∷ rows-after (p + 24) n (omega arith) i
 
 -- one row more
 pub rows-more : (l : List ℕ) (o n : ℕ) → rowsAt l o (n + 1) ≡ rowsAt l o n ++ (rowAt l (o + 24 * n) ∷ [])
@@ -148,7 +136,7 @@ rows-next l i n h =
     ap (rowsAt l (24 * i)) e ∙ ap (λ (o : ℕ). rowAt l (24 * i) ∷ rowsAt l o (n - (i + 1))) f
 
 -- rows in two parts
-pub rows-plus : (l : List ℕ) (o a b : ℕ) → rowsAt l o (a + b) ≡ rowsAt l o a ++ rowsAt l (o + 24 * a) b
+rows-plus : (l : List ℕ) (o a b : ℕ) → rowsAt l o (a + b) ≡ rowsAt l o a ++ rowsAt l (o + 24 * a) b
 unfolding rowsAt
 rows-plus l o zero b = rw (zero-add, add-zero)
 rows-plus l o (suc a) b =
@@ -165,30 +153,3 @@ rows-put-all l n ts h f =
     ∙ ap₂ (λ (x y : List Term). x ++ y) (rows-before l (24 * n) (rowsBytes ts) room 0 n (omega arith))
     (ap (λ (o : ℕ). rowsAt (put l (24 * n) (rowsBytes ts)) o (length ts)) (zero-add (24 * n))
     ∙ rows-at (take (24 * n) l) (drop (24 * n + length (rowsBytes ts)) l) (24 * n) ts (length-take-le (24 * n) l (omega arith)) f)
-
-three-words : (l : List ℕ) → take 24 l ≡ take 8 l ++ (take 8 (drop 8 l) ++ take 8 (drop 16 l))
-three-words l = take-add 8 16 l ∙ ap (λ (z : List ℕ). take 8 l ++ z) (take-add 8 8 (drop 8 l) ∙ rw (drop-drop 8 8 l))
-
--- of bytes below 256
-module _ (l : List ℕ) (o : ℕ) (fits : o + 24 ≤ length l) (small : (k : ℕ) → getD l k 0 < 256) where
-  pub row-fits : Fit (rowAt l o)
-  unfolding rowAt
-  row-fits = record {
-    ann = num-at-below 8 l o (omega arith) small;
-    cre = num-at-below 8 l (o + 8) (omega arith) small;
-    coeff = sfits-toZ (record { fits = num-at-below 8 l (o + 16) (omega arith) small });
-  }
-
-  -- the bytes of a row that was read
-  pub row-bytes : rowBytes (rowAt l o) ≡ take 24 (drop o l)
-  unfolding rowAt rowBytes
-  row-bytes =
-      let w : Fits w64 (wordAt l (o + 16)) = record { fits = num-at-below 8 l (o + 16) (omega arith) small } in
-      rw (
-        ofZ-toZ w,
-        bytes-at 8 l o (omega arith) small,
-        bytes-at 8 l (o + 8) (omega arith) small,
-        bytes-at 8 l (o + 16) (omega arith) small,
-        ← drop-drop 8 o l,
-        ← drop-drop 16 o l,
-      ) (sym (three-words (drop o l)))

@@ -32,7 +32,7 @@ unfolding before
 ascending-turn minus [] empty = empty
 ascending-turn minus (t ∷ ts) (above a s) = above (every-map (turn minus) ts (λ u h. h) a) (ascending-turn minus ts s)
 
-pub every-merge : {P : Term → Type 0} → Joins P → (ts us : List Term) → Every P ts → Every P us → Every P (merge ts us)
+every-merge : {P : Term → Type 0} → Joins P → (ts us : List Term) → Every P ts → Every P us → Every P (merge ts us)
 unfolding merge
 every-merge j [] us none h = h
 every-merge j (t ∷ ts) [] h none = h

@@ -19,7 +19,7 @@ use Rattle.lincomb.specs.Sums.{turn}
 use Rattle.lincomb.specs.Merging.{merge}
 
 module _ (f : Term → ℤ) (additive : Additive f) where
-  pub sum-merge : (ts us : List Term) → sumOf f (merge ts us) ≡ sumOf f ts +ℤ sumOf f us
+  sum-merge : (ts us : List Term) → sumOf f (merge ts us) ≡ sumOf f ts +ℤ sumOf f us
   unfolding merge sumOf
   sum-merge [] us = sym (+ℤ-idl (sumOf f us))
   sum-merge (t ∷ ts) [] = sym (+ℤ-idr (f t +ℤ sumOf f ts))
@@ -38,7 +38,7 @@ module _ (f : Term → ℤ) (additive : Additive f) where
 
 -- ---- signs
 
-pub sum-turn : (f : Term → ℤ) (minus : Bool) → ((t : Term) → f (turn minus t) ≡ signed minus (f t)) → (ts : List Term)
+sum-turn : (f : Term → ℤ) (minus : Bool) → ((t : Term) → f (turn minus t) ≡ signed minus (f t)) → (ts : List Term)
     → sumOf f (map (turn minus) ts) ≡ signed minus (sumOf f ts)
 sum-turn f minus h ts = sum-map f (turn minus) ts ∙ sum-signed (λ t. f (turn minus t)) f minus h ts
 

@@ -39,7 +39,7 @@ shifted-low (suc n) x p l = ap (λ (y : ℕ). bit y p) (ap (λ (y : ℕ). x * y)
     go (suc q) m rec = double-suc (x * 2 ^ n) q ∙ rec q (omega arith)
 
 -- what a word of k bits keeps
-pub bit-mod : (k y p : ℕ) → p < k → bit (y % 2 ^ k) p ≡ bit y p
+bit-mod : (k y p : ℕ) → p < k → bit (y % 2 ^ k) p ≡ bit y p
 bit-mod k y p l =
     ap (λ (x : ℕ). bit x p) (sym (and-mask y k)) ∙ bit-and y (2 ^ k - 1) p ∙ ap (λ (b : Bool). bit y p && b) full ∙ and-full (bit y p)
   where

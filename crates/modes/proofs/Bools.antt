@@ -80,7 +80,7 @@ and-r true b e = e
 and-r false true e = refl
 and-r false false e = e
 
-pub at1 : (f : Bool → Bool) → all1 f ≡ true → (a : Bool) → f a ≡ true
+at1 : (f : Bool → Bool) → all1 f ≡ true → (a : Bool) → f a ≡ true
 at1 f h true = and-l (f true) (f false) h
 at1 f h false = and-r (f true) (f false) h
 
@@ -99,7 +99,7 @@ all5 f = all1 (λ a. all4 (f a))
 abbrev pub all6 : (Bool → Bool → Bool → Bool → Bool → Bool → Bool) → Bool
 all6 f = all1 (λ a. all5 (f a))
 
-pub at2 : (f : Bool → Bool → Bool) → all2 f ≡ true → (a b : Bool) → f a b ≡ true
+at2 : (f : Bool → Bool → Bool) → all2 f ≡ true → (a b : Bool) → f a b ≡ true
 at2 f h a b = at1 (f a) (at1 (λ a. all1 (f a)) h a) b
 
 pub at3 : (f : Bool → Bool → Bool → Bool) → all3 f ≡ true → (a b c : Bool) → f a b c ≡ true

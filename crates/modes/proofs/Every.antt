@@ -9,10 +9,6 @@ pub every-implies : {A : Type 0} {P Q : A → Type 0} (l : List A) → ((x : A) 
 every-implies [] f none = none
 every-implies (x ∷ l) f (more h hs) = more (f x h) (every-implies l f hs)
 
-pub every-all : {A : Type 0} {P : A → Type 0} (l : List A) → ((x : A) → P x) → Every P l
-every-all [] f = none
-every-all (x ∷ l) f = more (f x) (every-all l f)
-
 pub every-both : {A : Type 0} {P Q : A → Type 0} (l : List A) → Every P l → Every Q l → Every (λ x. P x × Q x) l
 every-both [] none none = none
 every-both (x ∷ l) (more h hs) (more k ks) = more (h, k) (every-both l hs ks)

@@ -27,7 +27,7 @@ one-less p = record {
 }
 
 -- the modes of u below p
-pub exchanges-one : (k p : ℕ) (u : Modes) → p < k → exchanges k u (bit (2 ^ p)) ≡ count p u
+exchanges-one : (k p : ℕ) (u : Modes) → p < k → exchanges k u (bit (2 ^ p)) ≡ count p u
 exchanges-one k p u l = exchanges-less k p u (bit (2 ^ p)) (bit 0) (one-less p) l ∙ ap (λ (x : ℕ). x + count p u) (exchanges-end k u 0 refl) ∙ zero-add (count p u)
 
 pub count-nothing : (k : ℕ) → count k (bit 0) ≡ 0
@@ -59,7 +59,7 @@ unfolding count
 count-suc j v = refl
 
 -- the modes of v above p: all but those up to p
-pub one-exchanges : (k p : ℕ) (v : Modes) → p < k → exchanges k (bit (2 ^ p)) v + count (suc p) v ≡ count k v
+one-exchanges : (k p : ℕ) (v : Modes) → p < k → exchanges k (bit (2 ^ p)) v + count (suc p) v ≡ count k v
 unfolding exchanges
 one-exchanges zero p v l = absurd (not-suc-le-zero l)
 one-exchanges (suc j) p v l = go (λ m. one-exchanges j p v m) (lt-or-ge p j)
@@ -74,11 +74,11 @@ one-exchanges (suc j) p v l = go (λ m. one-exchanges j p v m) (lt-or-ge p j)
 -- ---- as the machine counts them
 
 -- `w & (2^p - 1)`
-pub ones-below : (w p : ℕ) → ones (bitAnd w (2 ^ p - 1)) ≡ count p (bit w)
+ones-below : (w p : ℕ) → ones (bitAnd w (2 ^ p - 1)) ≡ count p (bit w)
 ones-below w p = ap ones (and-mask w p) ∙ count-ones p w
 
 -- `w & (2^p - 1 + 2^p)`
-pub ones-up-to : (w p : ℕ) → ones (bitAnd w ((2 ^ p - 1) + 2 ^ p)) ≡ count (suc p) (bit w)
+ones-up-to : (w p : ℕ) → ones (bitAnd w ((2 ^ p - 1) + 2 ^ p)) ≡ count (suc p) (bit w)
 ones-up-to w p = ap (λ (x : ℕ). ones (bitAnd w x)) twice ∙ ones-below w (suc p)
   where
     twice : (2 ^ p - 1) + 2 ^ p ≡ 2 ^ suc p - 1

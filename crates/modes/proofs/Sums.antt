@@ -59,12 +59,12 @@ module _ {B : Type 0} {op : B → B → B} {e : B} (s : Adding op e) where
   by-append f [] m = sym (s .unit (sumBy op e f m))
   by-append f (x ∷ l) m = ap (op (f x)) (by-append f l m) ∙ sym (s .assoc (f x) (sumBy op e f l) (sumBy op e f m))
 
-  pub by-none : {A : Type 0} (l : List A) → sumBy op e (λ (x : A). e) l ≡ e
+  by-none : {A : Type 0} (l : List A) → sumBy op e (λ (x : A). e) l ≡ e
   unfolding sumBy
   by-none [] = refl
   by-none (x ∷ l) = s .unit _ ∙ by-none l
 
-  pub by-add : {A : Type 0} (f g : A → B) (l : List A) → sumBy op e (λ x. op (f x) (g x)) l ≡ op (sumBy op e f l) (sumBy op e g l)
+  by-add : {A : Type 0} (f g : A → B) (l : List A) → sumBy op e (λ x. op (f x) (g x)) l ≡ op (sumBy op e f l) (sumBy op e g l)
   unfolding sumBy
   by-add f g [] = sym (s .unit e)
   by-add f g (x ∷ l) = ap (op (op (f x) (g x))) (by-add f g l) ∙ regroup (f x) (g x) (sumBy op e f l) (sumBy op e g l)

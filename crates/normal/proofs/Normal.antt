@@ -8,18 +8,17 @@ use lib.IntN.{natAbs}
 use borrow.Author.Tests.{eqb-false}
 use Rattle.modes.specs.declared.Term.{Term}
 use Rattle.modes.specs.Every.{Every, none, more}
-use Rattle.products.specs.Operators.{element}
 use Rattle.record.specs.Terms.{before, Above, Ascending, empty, above}
 use Rattle.record.specs.Coefficients.{coeffOf}
 use Rattle.record.specs.Canonical.{Inside, Nonzero}
 use Rattle.record.proofs.Order.{Compared, less, same, greater, compare, above-trans}
 use Rattle.record.proofs.Coefficients.{same-terms}
 use Rattle.normal.specs.Normal.{alike, join, insert, collect, dropZeros, normal}
-use Rattle.normal.proofs.Totals.{alike-words, coeff-normal, element-normal}
+use Rattle.normal.proofs.Totals.{alike-words, coeff-normal}
 
 -- ---- what holds of every term
 
-pub every-drop : {P : Term → Type 0} (ts : List Term) → Every P ts → Every P (dropZeros ts)
+every-drop : {P : Term → Type 0} (ts : List Term) → Every P ts → Every P (dropZeros ts)
 unfolding dropZeros
 every-drop [] none = none
 every-drop {P} (t ∷ ts) (more p ps) = go (every-drop ts ps) (eqb (natAbs (t .coeff)) 0)
@@ -32,7 +31,7 @@ every-drop {P} (t ∷ ts) (more p ps) = go (every-drop ts ps) (eqb (natAbs (t .c
 abbrev pub Joins : (Term → Type 0) → Type 0
 Joins P = (t u : Term) → P t → P u → P (join t u)
 
-pub every-insert : {P : Term → Type 0} → Joins P → (t : Term) (ts : List Term) → P t → Every P ts → Every P (insert t ts)
+every-insert : {P : Term → Type 0} → Joins P → (t : Term) (ts : List Term) → P t → Every P ts → Every P (insert t ts)
 unfolding insert
 every-insert j t [] p none = more p none
 every-insert {P} j t (u ∷ ts) p (more q qs) = go (every-insert j t ts p qs) (alike t u) (before t u)
@@ -42,7 +41,7 @@ every-insert {P} j t (u ∷ ts) p (more q qs) = go (every-insert j t ts p qs) (a
     go h false true = more p (more q qs)
     go h false false = more q h
 
-pub every-collect : {P : Term → Type 0} → Joins P → (ts : List Term) → Every P ts → Every P (collect ts)
+every-collect : {P : Term → Type 0} → Joins P → (ts : List Term) → Every P ts → Every P (collect ts)
 unfolding collect
 every-collect j [] none = none
 every-collect j (t ∷ ts) (more p ps) = every-insert j t (collect ts) p (every-collect j ts ps)
@@ -61,7 +60,7 @@ inside-joins m t u h k = record { ann = k .ann; cre = k .cre }
 
 -- ---- order
 
-pub ascending-insert : (t : Term) (ts : List Term) → Ascending ts → Ascending (insert t ts)
+ascending-insert : (t : Term) (ts : List Term) → Ascending ts → Ascending (insert t ts)
 unfolding insert join before
 ascending-insert t [] empty = above none empty
 ascending-insert t (u ∷ ts) (above a s) = go (ascending-insert t ts s) (alike t u) (before t u) refl refl
@@ -76,7 +75,7 @@ ascending-insert t (u ∷ ts) (above a s) = go (ascending-insert t ts s) (alike 
         after (same p q) = absurd (true≢false (sym (alike-words t u p q) ∙ e))
         after (greater q) = q
 
-pub ascending-collect : (ts : List Term) → Ascending (collect ts)
+ascending-collect : (ts : List Term) → Ascending (collect ts)
 unfolding collect
 ascending-collect [] = empty
 ascending-collect (t ∷ ts) = ascending-insert t (collect ts) (ascending-collect ts)
@@ -115,7 +114,3 @@ normal-is us ts s n e =
 -- lists with the same coefficients have one normal form
 pub normal-same : (ts us : List Term) → ((c a : ℕ) → coeffOf c a ts ≡ coeffOf c a us) → normal ts ≡ normal us
 normal-same ts us e = normal-is (normal ts) us (normal-ascending ts) (normal-nonzero ts) (λ c a. coeff-normal c a ts ∙ e c a)
-
--- and the same elements
-pub coefficients-decide : (bra ket : ℕ) (ts us : List Term) → ((c a : ℕ) → coeffOf c a ts ≡ coeffOf c a us) → element bra ket ts ≡ element bra ket us
-coefficients-decide bra ket ts us e = sym (element-normal bra ket ts) ∙ ap (element bra ket) (normal-same ts us e) ∙ element-normal bra ket us

@@ -37,7 +37,7 @@ pub record Additive (f : Term → ℤ) : Type 0 where
   pub none : (t : Term) → natAbs (t .coeff) ≡ 0 → f t ≡ pos 0
 
 module _ (f : Term → ℤ) (additive : Additive f) where
-  pub sum-insert : (t : Term) (ts : List Term) → sumOf f (insert t ts) ≡ f t +ℤ sumOf f ts
+  sum-insert : (t : Term) (ts : List Term) → sumOf f (insert t ts) ≡ f t +ℤ sumOf f ts
   unfolding sumOf insert
   sum-insert t [] = refl
   sum-insert t (u ∷ ts) = go (sum-insert t ts) (alike t u) (before t u) refl
@@ -48,12 +48,12 @@ module _ (f : Term → ℤ) (additive : Additive f) where
       go ih false true e = refl
       go ih false false e = ap (λ (x : ℤ). f u +ℤ x) ih ∙ exchange (f u) (f t) (sumOf f ts)
 
-  pub sum-collect : (ts : List Term) → sumOf f (collect ts) ≡ sumOf f ts
+  sum-collect : (ts : List Term) → sumOf f (collect ts) ≡ sumOf f ts
   unfolding sumOf collect
   sum-collect [] = refl
   sum-collect (t ∷ ts) = sum-insert t (collect ts) ∙ ap (λ (x : ℤ). f t +ℤ x) (sum-collect ts)
 
-  pub sum-drop : (ts : List Term) → sumOf f (dropZeros ts) ≡ sumOf f ts
+  sum-drop : (ts : List Term) → sumOf f (dropZeros ts) ≡ sumOf f ts
   unfolding sumOf dropZeros
   sum-drop [] = refl
   sum-drop (t ∷ ts) = go (sum-drop ts) (eqb (natAbs (t .coeff)) 0) refl
@@ -63,7 +63,7 @@ module _ (f : Term → ℤ) (additive : Additive f) where
       go ih true e = ih ∙ sym (+ℤ-idl (sumOf f ts)) ∙ ap (λ (x : ℤ). x +ℤ sumOf f ts) (sym (additive .none t (eqb-true _ _ e)))
       go ih false e = ap (λ (x : ℤ). f t +ℤ x) ih
 
-  pub sum-normal : (ts : List Term) → sumOf f (normal ts) ≡ sumOf f ts
+  sum-normal : (ts : List Term) → sumOf f (normal ts) ≡ sumOf f ts
   sum-normal ts = sum-drop (collect ts) ∙ sum-collect ts
 
 -- a sum whose parts have one sign
@@ -115,7 +115,7 @@ adds-zero : (bra : ℕ) (o : Outcome) → adds bra (pos 0) o ≡ pos 0
 adds-zero bra gone = refl
 adds-zero bra (went w s) = ap (λ (z : ℤ). cond (eqb w bra) z (pos 0)) (signed-zero s) ∙ where-zero (eqb w bra)
 
-pub element-additive : (bra ket : ℕ) → Additive (part bra ket)
+element-additive : (bra ket : ℕ) → Additive (part bra ket)
 unfolding join
 element-additive bra ket =
     record {

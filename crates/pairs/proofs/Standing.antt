@@ -23,7 +23,7 @@ use Rattle.pairs.specs.Filling.{Stands, Opposite, Settled, cancelled, ke
 use Rattle.pairs.specs.declared.Fill.{Fill}
 
 -- numbers as far from zero as each other, and not the same, add up to nothing
-pub opposite-sum : (x y : ℤ) → natAbs x ≡ natAbs y → (x ≡ y → ⊥) → x +ℤ y ≡ pos 0
+opposite-sum : (x y : ℤ) → natAbs x ≡ natAbs y → (x ≡ y → ⊥) → x +ℤ y ≡ pos 0
 opposite-sum (pos a) (pos b) e n = absurd (n (ap pos e))
 opposite-sum (pos a) (negsuc b) e n = ap (λ (k : ℕ). pos k +ℤ negsuc b) e ∙ +ℤ-invr (pos (suc b))
 opposite-sum (negsuc a) (pos b) e n = ap (λ (k : ℕ). negsuc a +ℤ pos k) (sym e) ∙ +ℤ-invr (negsuc a)

@@ -20,7 +20,7 @@ use Rattle.products.proofs.ClosedForm.{ready, term-is}
 -- ---- the tests, at any width k
 
 -- `w & a == a`
-pub subset-yes : (k w a : ℕ) → bitAnd w a ≡ a → ready true k a w ≡ true
+subset-yes : (k w a : ℕ) → bitAnd w a ≡ a → ready true k a w ≡ true
 subset-yes k w a e = each-all k _ (λ p l. go (bit a p) (bit w p) (sym (bit-and w a p) ∙ ap (λ (x : ℕ). bit x p) e))
   where
     go : (x y : Bool) → y && x ≡ x → not x || y ≡ true
@@ -28,7 +28,7 @@ subset-yes k w a e = each-all k _ (λ p l. go (bit a p) (bit w p) (sym (bit-and 
     go true false q = q
     go false y q = refl
 
-pub subset-no : (k w a : ℕ) → a < 2 ^ k → (bitAnd w a ≡ a → ⊥) → ready true k a w ≡ false
+subset-no : (k w a : ℕ) → a < 2 ^ k → (bitAnd w a ≡ a → ⊥) → ready true k a w ≡ false
 subset-no k w a h n = go (ready true k a w) refl
   where
     digit : (x y : Bool) → not x || y ≡ true → y && x ≡ x
@@ -49,7 +49,7 @@ subset-no k w a h n = go (ready true k a w) refl
     go false q = q
 
 -- `c & x == 0`
-pub apart-yes : (k c x : ℕ) → bitAnd c x ≡ 0 → ready false k c x ≡ true
+apart-yes : (k c x : ℕ) → bitAnd c x ≡ 0 → ready false k c x ≡ true
 apart-yes k c x e = each-all k _ (λ p l. go (bit c p) (bit x p) (sym (bit-and c x p) ∙ ap (λ (w : ℕ). bit w p) e ∙ bit-none p))
   where
     go : (a b : Bool) → a && b ≡ false → not a || not b ≡ true
@@ -57,7 +57,7 @@ apart-yes k c x e = each-all k _ (λ p l. go (bit c p) (bit x p) (sym (bit-and c
     go true false q = refl
     go false b q = refl
 
-pub apart-no : (k c x : ℕ) → c < 2 ^ k → (bitAnd c x ≡ 0 → ⊥) → ready false k c x ≡ false
+apart-no : (k c x : ℕ) → c < 2 ^ k → (bitAnd c x ≡ 0 → ⊥) → ready false k c x ≡ false
 apart-no k c x h n = go (ready false k c x) refl
   where
     digit : (a b : Bool) → not a || not b ≡ true → a && b ≡ false
@@ -77,7 +77,7 @@ apart-no k c x h n = go (ready false k c x) refl
     go false q = q
 
 -- `w & !a`, where a is a part of w
-pub without : (k w a : ℕ) → w < 2 ^ k → a < 2 ^ k → bitAnd w a ≡ a → bitAnd w ((2 ^ k - 1) - a) ≡ bitXor w a
+without : (k w a : ℕ) → w < 2 ^ k → a < 2 ^ k → bitAnd w a ≡ a → bitAnd w ((2 ^ k - 1) - a) ≡ bitXor w a
 without k w a hw ha e = ext _ _ (λ p. bit-and w ((2 ^ k - 1) - a) p ∙ at p (lt-or-ge p k) ∙ sym (bit-xor w a p))
   where
     digit : (x y : Bool) → x && y ≡ y → x && not y ≡ x ⊕ y

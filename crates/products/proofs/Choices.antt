@@ -22,11 +22,11 @@ use Rattle.products.proofs.Sums.{Part, part-later, part-more, added}
 
 -- ---- how many
 
-unfoldable pub countFrom : ℕ → ℕ → Modes → ℕ
+unfoldable countFrom : ℕ → ℕ → Modes → ℕ
 countFrom zero p B = 0
 countFrom (suc n) p B = cond (B p) 1 0 + countFrom n (suc p) B
 
-pub choices-length : (n p : ℕ) (B : Modes) (S : ℕ) → length (choices n p B S) ≡ 2 ^ countFrom n p B
+choices-length : (n p : ℕ) (B : Modes) (S : ℕ) → length (choices n p B S) ≡ 2 ^ countFrom n p B
 unfolding choices countFrom
 choices-length zero p B S = refl
 choices-length (suc n) p B S = go (λ S. choices-length n (suc p) B S) (B p)

@@ -29,13 +29,13 @@ ladders-gone needs (suc p) at = go (ladders-gone needs p at) (bit at p)
     go ih false = ih
 
 -- a word without modes has no ladders
-pub ladders-none : (needs : Bool) (k : ℕ) (o : Outcome) → ladders needs k 0 o ≡ o
+ladders-none : (needs : Bool) (k : ℕ) (o : Outcome) → ladders needs k 0 o ≡ o
 unfolding ladders
 ladders-none needs zero o = refl
 ladders-none needs (suc p) o = rw (bit-none p) (ladders-none needs p o)
 
 -- the word with the modes of `at` below k flipped
-unfoldable pub flips : ℕ → ℕ → ℕ → ℕ
+unfoldable flips : ℕ → ℕ → ℕ → ℕ
 flips zero at w = w
 flips (suc p) at w = flips p at (cond (bit at p) (bitXor w (2 ^ p)) w)
 
@@ -69,7 +69,7 @@ step needs p at ih w s true false = rw (and-false (ready needs p at w)) (ladders
 step needs p at ih w s false m =
     rw (ih w s, and-true (ready needs p at w), ⊕-false (oddExchanges p (bit w) (bit at)))
 
-pub ladders-is : (needs : Bool) (k at w : ℕ) (s : Bool)
+ladders-is : (needs : Bool) (k at w : ℕ) (s : Bool)
     → ladders needs k at (went w s) ≡ cond (ready needs k at w) (went (flips k at w) (s ⊕ oddExchanges k (bit w) (bit at))) gone
 unfolding ladders each flips oddExchanges ladder
 ladders-is needs zero at w s = ap (went w) (sym (⊕-false s))
@@ -104,7 +104,7 @@ bit-flips (suc p) at w i =
     bit-flips p at (cond (bit at p) (bitXor w (2 ^ p)) w) i ∙ ap (λ (x : Bool). x ⊕ (ltb i p && bit at i)) (bit-cond (bit at p) w p i)
     ∙ ⊕-assoc (bit w i) (bit at p && eqb i p) (ltb i p && bit at i) ∙ ap (λ (x : Bool). bit w i ⊕ x) (one-more at p i)
 
-pub flips-is : (k at w : ℕ) → at < 2 ^ k → flips k at w ≡ bitXor w at
+flips-is : (k at w : ℕ) → at < 2 ^ k → flips k at w ≡ bitXor w at
 flips-is k at w h = ext _ _ (λ i. bit-flips k at w i ∙ ap (λ (x : Bool). bit w i ⊕ x) (within i (lt-or-ge i k)) ∙ sym (bit-xor w at i))
   where
     within : (i : ℕ) → (i < k) ⊎ (k ≤ i) → ltb i k && bit at i ≡ bit at i

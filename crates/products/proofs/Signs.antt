@@ -48,10 +48,6 @@ adds-signed bra minus z gone = sym (signed-zero minus)
 adds-signed bra minus z (went w s) =
     ap (λ (x : ℤ). cond (eqb w bra) x (pos 0)) (signed-swap s minus z) ∙ where-signed (eqb w bra) minus (signed s z)
 
--- one term on k: all that depends on k is `oddExchanges k` of the modes that flip
-pub one-sign : (n : ℕ) (k a c : Modes) → oddExchanges n k a ⊕ oddExchanges n (k △ a) c ≡ oddExchanges n a c ⊕ oddExchanges n k (a △ c)
-one-sign n k a c = simp (odd-exchanges-△-l, odd-exchanges-△-r, parity-sum)
-
 -- the sign that a product has before its row is put in order
 abbrev pub joined : ℕ → Modes → Modes → Modes → Modes → Bool
 joined n lc la rc ra = oddExchanges n ra rc ⊕ (oddExchanges n (ra △ rc) la ⊕ oddExchanges n ((ra △ rc) △ la) lc)

@@ -32,7 +32,7 @@ unfoldable pub from : ℕ → ℕ → (ℕ → Bool) → Bool
 from zero p f = true
 from (suc n) p f = f p && from n (suc p) f
 
-pub from-each : (n p k : ℕ) (f : ℕ → Bool) → p + n ≡ k → each p f && from n p f ≡ each k f
+from-each : (n p k : ℕ) (f : ℕ → Bool) → p + n ≡ k → each p f && from n p f ≡ each k f
 unfolding from each
 from-each zero p k f e = and-true (each p f) ∙ ap (λ (x : ℕ). each x f) (sym (add-zero p) ∙ e)
 from-each (suc n) p k f e =

@@ -45,7 +45,7 @@ module _ (left : ℕ) (some : 0 < left) (small : left < 2 ^ 64) where
 
 -- ---- the rows
 
-pub length-walk : (n left : ℕ) (t : Term) → length (walk n left t) ≡ 2 ^ n
+length-walk : (n left : ℕ) (t : Term) → length (walk n left t) ≡ 2 ^ n
 unfolding walk
 length-walk zero left t = refl
 length-walk (suc n) left t =

@@ -29,16 +29,16 @@ pub abs-zero : (z : ℤ) → natAbs z ≡ 0 → z ≡ pos 0
 abs-zero (pos n) e = ap pos e
 abs-zero (negsuc n) e = absurd (omega arith)
 
-pub abs-nonzero : (z : ℤ) → (z ≡ pos 0 → ⊥) → natAbs z ≡ 0 → ⊥
+abs-nonzero : (z : ℤ) → (z ≡ pos 0 → ⊥) → natAbs z ≡ 0 → ⊥
 abs-nonzero z h e = h (abs-zero z e)
 
 -- a term that may stand where it stands
-pub record Right (m : ℕ) (up : Bool) (t : Term) : Type 0 where
+record Right (m : ℕ) (up : Bool) (t : Term) : Type 0 where
   pub inside : Inside m t
   pub above : up ≡ true
   pub nonzero : Nonzero t
 
-pub term-right : (o m i : ℕ) (up : Bool) (t : Term) → (termRefusal o m i up t) .number ≡ 0 → Right m up t
+term-right : (o m i : ℕ) (up : Bool) (t : Term) → (termRefusal o m i up t) .number ≡ 0 → Right m up t
 unfolding termRefusal inside
 term-right o m i up t e =
     let first = neither (need (inside m (t .cre) (t .ann)) (refusal 2 o i)) _ e in
@@ -68,13 +68,13 @@ above-first : (t : Term) (ts : List Term) → Above t ts → Begins (before t) t
 above-first t [] none = tt
 above-first t (u ∷ ts) (more h a) = h
 
-pub record AllRight (m : ℕ) (up : Term → Bool) (ts : List Term) : Type 0 where
+record AllRight (m : ℕ) (up : Term → Bool) (ts : List Term) : Type 0 where
   pub begins : Begins up ts
   pub inside : Every (Inside m) ts
   pub ascending : Ascending ts
   pub nonzero : Every Nonzero ts
 
-pub all-right : (o m i : ℕ) (up : Term → Bool) (ts : List Term) → (termsRefusal o m i up ts) .number ≡ 0 → AllRight m up ts
+all-right : (o m i : ℕ) (up : Term → Bool) (ts : List Term) → (termsRefusal o m i up ts) .number ≡ 0 → AllRight m up ts
 unfolding termsRefusal
 all-right o m i up [] e = record { begins = tt; inside = none; ascending = empty; nonzero = none }
 all-right o m i up (t ∷ ts) e =

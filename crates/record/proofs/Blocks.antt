@@ -32,7 +32,7 @@ use Rattle.record.proofs.Order.{Order, lower, level, order}
 use Rattle.record.proofs.Columns.{drop-take, column-none, column-take, column-drop}
 use Rattle.record.proofs.Halving.{count-length, count-more, count-same, count-all, Downward, none-above}
 
-pub first-below-past : (a : ℕ) (ts : List Term) → countIf (annBelow a) ts ≤ countIf (annBelow (a + 1)) ts
+first-below-past : (a : ℕ) (ts : List Term) → countIf (annBelow a) ts ≤ countIf (annBelow (a + 1)) ts
 first-below-past a ts = count-more (annBelow a) (annBelow (a + 1)) ts (λ t e. lt-ltb (t .ann) (a + 1) (omega (arith, ltb-true (t .ann) a e)))
 
 ann-below : (t u : Term) → before t u ≡ true → t .ann ≤ u .ann
@@ -73,7 +73,7 @@ unfolding termsIn
 count-every l n b small h w =
     sym (count-all (annBelow b) (termsIn l n) (words-below l b small w 32 (32 + 8 * n) (32 + 16 * n) n (omega arith)) ∙ length-terms l n)
 
-pub past-inside : (l : List ℕ) (n a : ℕ) → countIf (annBelow a) (termsIn l n) ≤ n
+past-inside : (l : List ℕ) (n a : ℕ) → countIf (annBelow a) (termsIn l n) ≤ n
 past-inside l n a = let h = count-length (annBelow a) (termsIn l n) in let e = length-terms l n in omega arith
 
 pub stretch-none : (n f p : ℕ) → f ≡ p → emptyStretch ≡ stretch n f p
@@ -125,7 +125,7 @@ none-having a t [] h none = refl
 none-having a t (u ∷ ts) h (more b s) = rw (ne-eqb (u .ann) a (λ e. omega (arith, ann-below t u b)), none-having a t ts h s)
 
 -- in an ascending list they stand together
-pub having-is : (a : ℕ) (ts : List Term) → Ascending ts
+having-is : (a : ℕ) (ts : List Term) → Ascending ts
     → having a ts ≡ take (countIf (annBelow (a + 1)) ts - countIf (annBelow a) ts) (drop (countIf (annBelow a) ts) ts)
 unfolding having countIf
 having-is a [] empty = refl

@@ -37,7 +37,7 @@ earlier-words t x e = go (order t x e)
     go (lower h) = rw (ne-eqb (t .ann) (x .ann) (λ q. omega arith))
     go (level q h) = rw (ne-eqb (t .cre) (x .cre) (λ p. omega arith), and-false (eqb (t .ann) (x .ann)))
 
-pub above-none : (t : Term) (ts : List Term) → Above t ts → coeffOf (t .cre) (t .ann) ts ≡ pos 0
+above-none : (t : Term) (ts : List Term) → Above t ts → coeffOf (t .cre) (t .ann) ts ≡ pos 0
 unfolding sumOf
 above-none t [] none = refl
 above-none t (u ∷ ts) (more h a) = rw (other-words t u h, above-none t ts a)

@@ -16,7 +16,7 @@ use Rattle.record.proofs.Order.{before-trans}
 
 -- ---- counting
 
-pub count-append : (p : Term → Bool) (ts us : List Term) → countIf p (ts ++ us) ≡ countIf p ts + countIf p us
+count-append : (p : Term → Bool) (ts us : List Term) → countIf p (ts ++ us) ≡ countIf p ts + countIf p us
 unfolding countIf
 count-append p [] us = omega arith
 count-append p (t ∷ ts) us = rw (count-append p ts us) (omega arith)

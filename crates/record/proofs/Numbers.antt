@@ -23,22 +23,22 @@ unfolding stored
 length-stored w [] = sym (mul-zero w)
 length-stored w (x ∷ xs) = length-append (bytes w x) (stored w xs) ∙ rw (length-bytes w x, length-stored w xs) (omega (arith, mul-suc w (length xs)))
 
-pub stored-append : (w : ℕ) (xs ys : List ℕ) → stored w (xs ++ ys) ≡ stored w xs ++ stored w ys
+stored-append : (w : ℕ) (xs ys : List ℕ) → stored w (xs ++ ys) ≡ stored w xs ++ stored w ys
 unfolding stored
 stored-append w [] ys = refl
 stored-append w (x ∷ xs) ys =
     ap (λ (z : List ℕ). bytes w x ++ z) (stored-append w xs ys) ∙ sym (append-assoc (bytes w x) (stored w xs) (stored w ys))
 
-pub stored-one : (w x : ℕ) → stored w (x ∷ []) ≡ bytes w x
+stored-one : (w x : ℕ) → stored w (x ∷ []) ≡ bytes w x
 unfolding stored
 stored-one w x = append-nil (bytes w x)
 
-pub put-none : (l : List ℕ) (o : ℕ) → put l o [] ≡ l
+put-none : (l : List ℕ) (o : ℕ) → put l o [] ≡ l
 unfolding put
 put-none l o = rw (add-zero o) (take-append-drop o l)
 
 -- one number more, stored after the others
-pub put-next : (w : ℕ) (l : List ℕ) (o : ℕ) (xs : List ℕ) (x p : ℕ) → o ≤ length l → o + w * length xs ≡ p
+put-next : (w : ℕ) (l : List ℕ) (o : ℕ) (xs : List ℕ) (x p : ℕ) → o ≤ length l → o + w * length xs ≡ p
     → put (put l o (stored w xs)) p (bytes w x) ≡ put l o (stored w (xs ++ (x ∷ [])))
 put-next w l o xs x p h e =
     put-join l (stored w xs) (bytes w x) o p h (rw (length-stored w xs) e)

@@ -92,7 +92,7 @@ module _ (a b : List ℕ) (z : (operandsRefusal (readAs 1 a) (readAs 2 b)) .numb
   pub same-modes : modesOf a ≡ modesOf b
   same-modes = eqb-true _ _ (needed (eqb (modesOf a) (modesOf b)) modesDiffer (λ e. absurd (omega arith)) (neither _ _ rest-fine .1))
 
-  pub pair-none : operandsRefusal (readAs 1 a) (readAs 2 b) ≡ none
+  pair-none : operandsRefusal (readAs 1 a) (readAs 2 b) ≡ none
   pair-none =
       rw (accepted-none 1 a first-fine, accepted-none 2 b second-fine, eq-eqb (modesOf a) (modesOf b) same-modes)
       (or-second none _ refl ∙ or-second none _ refl)

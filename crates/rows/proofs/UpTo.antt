@@ -11,7 +11,7 @@ use Rattle.modes.specs.Every.{Every, none, more}
 use Rattle.rows.specs.Terms.{at, upTo}
 use Rattle.rows.proofs.Choices.{same-or}
 
-pub length-up-to : (f : ℕ → Term) (n : ℕ) → length (upTo f n) ≡ n
+length-up-to : (f : ℕ → Term) (n : ℕ) → length (upTo f n) ≡ n
 unfolding upTo
 length-up-to f zero = refl
 length-up-to f (suc n) = simp (length-append, length-up-to f n) (omega arith)
