@@ -5,9 +5,12 @@ pub mod Outcomes
 pub mod Unique
 pub mod Signs
 pub mod Sums
+pub mod RowDigits
 pub mod ProductActs
 pub mod Walks
 pub mod Choices
+pub mod OneMore
 pub mod WalkRows
+pub mod HelperWords
 pub mod Multiplied
 pub mod ProductTheorems

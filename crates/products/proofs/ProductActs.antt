@@ -7,67 +7,21 @@ use Prim.Native.Nat.{ℕ, _^_, _≤_, _<_}
 use lib.Dec.{eqb, lit<}
 use lib.Bits.{bitAnd, bitOr, bitXor, or-lt, xor-lt, and-lt}
 use lib.IntN.{ℤ, pos}
-use Rattle.modes.specs.Bools.{_⊕_, same}
+use Rattle.modes.specs.Bools.{_⊕_}
 use Rattle.modes.specs.Words.{Modes, bit, _△_, each}
 use Rattle.modes.specs.Counts.{odd, oddExchanges}
 use Rattle.modes.specs.Sums.{sumOf}
 use Rattle.modes.proofs.Sums.{sum-map}
-use Rattle.modes.proofs.Bools.{false-⊕, ⊕-assoc, ⊕-comm, of-same, at5, at6}
-use Rattle.modes.proofs.Sets.{odd-none, odd-exchanges-none, each-cong, each-and, each-all, each-at}
-use Rattle.modes.proofs.Digits.{lt-or-ge, bit-xor, bit-or, bit-and, bits-xor, bit-above, bit-none, ext}
+use Rattle.modes.proofs.Bools.{false-⊕, ⊕-assoc, ⊕-comm}
+use Rattle.modes.proofs.Sets.{odd-none, each-cong, each-and, each-all, each-at}
+use Rattle.modes.proofs.Digits.{lt-or-ge, bit-xor, bits-xor, bit-above, bit-none, ext}
 use Rattle.products.specs.PhaseRule.{gone, went, term}
 use Rattle.products.specs.Operators.{signed, adds, part, element}
-use Rattle.products.specs.Product.{fine, branch, signOf, choices, notEmpty, branching, creAt, annAt, minusAt, rowTimes, rowsTimes}
+use Rattle.products.specs.Product.{fine, signOf, choices, notEmpty, branching, creAt, annAt, minusAt, rowTimes, rowsTimes}
 use Rattle.products.proofs.ClosedForm.{fit, acts, acts-is, term-is, term-gone}
 use Rattle.products.proofs.Signs.{signed-zero, signed-signed, joined, two-signs, row-sign}
 use Rattle.products.proofs.Sums.{sum-cong, Part, weigh, alternate, from-all}
-
--- ---- mode by mode
-
--- the words of the lowest row
-abbrev pub creD : Bool → Bool → Bool → Bool
-creD lc la rc = lc || (rc ⊕ (la && rc))
-
-abbrev pub annD : Bool → Bool → Bool → Bool
-annD la rc ra = ra || (la ⊕ (la && rc))
-
-abbrev pub imp : Bool → Bool → Bool
-imp a b = not a || b
-
-pub mp : (a b : Bool) → imp a b ≡ true → a ≡ true → b ≡ true
-mp true b h e = h
-mp false true h e = refl
-mp false false h e = e
-
--- R and then L is ready where the product is not empty, its lowest row is ready, and no branches mode is occupied
-then-digit : (lc la rc ra k : Bool) → fit rc ra k && fit lc la ((k ⊕ ra) ⊕ rc)
-    ≡ fine lc la rc ra && (fit (creD lc la rc) (annD la rc ra) k && not (branch lc la rc ra && k))
-unfolding _⊕_
-then-digit lc la rc ra k =
-    of-same _ _ (at5 (λ lc la rc ra k. same (fit rc ra k && fit lc la ((k ⊕ ra) ⊕ rc)) (fine lc la rc ra && (fit (creD lc la rc) (annD la rc ra) k && not (branch lc la rc ra && k)))) refl lc la rc ra k)
-
--- a row that keeps the mode s is ready where the lowest row is, and s is occupied
-row-digit : (lc la rc ra k s : Bool) → not s || branch lc la rc ra ≡ true
-    → fit (creD lc la rc || s) (annD la rc ra || s) k ≡ fit (creD lc la rc) (annD la rc ra) k && (not s || k)
-unfolding _⊕_
-row-digit lc la rc ra k s h =
-    of-same _ _ (mp _ _ (at6 (λ lc la rc ra k s. imp (not s || branch lc la rc ra) (same (fit (creD lc la rc || s) (annD la rc ra || s) k) (fit (creD lc la rc) (annD la rc ra) k && (not s || k)))) refl lc la rc ra k s) h)
-
--- every row flips the modes that R and then L flip
-flip-digit : (lc la rc ra s : Bool) → not s || branch lc la rc ra ≡ true → fine lc la rc ra ≡ true
-    → (annD la rc ra || s) ⊕ (creD lc la rc || s) ≡ ((ra ⊕ rc) ⊕ la) ⊕ lc
-unfolding _⊕_
-flip-digit lc la rc ra s h f =
-    of-same _ _ (mp _ _ (mp _ _ (at5 (λ lc la rc ra s. imp (not s || branch lc la rc ra) (imp (fine lc la rc ra) (same ((annD la rc ra || s) ⊕ (creD lc la rc || s)) (((ra ⊕ rc) ⊕ la) ⊕ lc)))) refl lc la rc ra s) h) f)
-
--- ---- one product
-
--- along the empty word only the creations cross what the annihilations change
-empty-sign : (c a : ℕ) → signOf c a 0 ≡ oddExchanges 64 (bit a) (bit c)
-empty-sign c a =
-    ap₂ (λ (x : Bool) (w : ℕ). x ⊕ oddExchanges 64 (bit w) (bit c)) (odd-exchanges-none 64 (bit 0) (bit a) (λ i l. bit-none i))
-    (ext _ _ (λ i. bit-xor 0 a i ∙ ap (λ (x : Bool). x ⊕ bit a i) (bit-none i) ∙ false-⊕ (bit a i)))
-    ∙ false-⊕ _
+use Rattle.products.proofs.RowDigits.{creD, annD, then-digit, row-digit, flip-digit, minus-is, bit-cre, bit-ann}
 
 module _ (Lc La Rc Ra : ℕ) where
   abbrev cre : ℕ → ℕ
@@ -85,20 +39,6 @@ module _ (Lc La Rc Ra : ℕ) where
   abbrev branches : Modes
   branches = branching Lc La Rc Ra
 
-  -- a row's sign, as the parity of exchange counts
-  pub minus-is : (S : ℕ) → minus S ≡ (odd 64 (bit S) ⊕ joined 64 (bit Lc) (bit La) (bit Rc) (bit Ra)) ⊕ oddExchanges 64 (bit (ann S)) (bit (cre S))
-  minus-is S =
-      ap₂ (λ (x y : Bool). (odd 64 (bit S) ⊕ x) ⊕ y)
-      (ap₂ (λ (x y : Bool). x ⊕ y) (empty-sign Rc Ra)
-      (ap₂ (λ (u v : Modes). oddExchanges 64 u (bit La) ⊕ oddExchanges 64 v (bit Lc)) (bits-xor Ra Rc) (bits-xor (bitXor Ra Rc) La ∙ ap (λ (u : Modes). u △ bit La) (bits-xor Ra Rc))))
-      (empty-sign (cre S) (ann S))
-
-  pub bit-cre : (S p : ℕ) → bit (cre S) p ≡ creD (bit Lc p) (bit La p) (bit Rc p) || bit S p
-  bit-cre S p = rw (bit-or (bitOr Lc (bitXor Rc (bitAnd La Rc))) S p, bit-or Lc (bitXor Rc (bitAnd La Rc)) p, bit-xor Rc (bitAnd La Rc) p, bit-and La Rc p)
-
-  pub bit-ann : (S p : ℕ) → bit (ann S) p ≡ annD (bit La p) (bit Rc p) (bit Ra p) || bit S p
-  bit-ann S p = rw (bit-or (bitOr Ra (bitXor La (bitAnd La Rc))) S p, bit-or Ra (bitXor La (bitAnd La Rc)) p, bit-xor La (bitAnd La Rc) p, bit-and La Rc p)
-
   -- where the lowest row is ready
   abbrev base : ℕ → Bool
   base k = each 64 (λ p. fit (creD (bit Lc p) (bit La p) (bit Rc p)) (annD (bit La p) (bit Rc p) (bit Ra p)) (bit k p))
@@ -106,7 +46,7 @@ module _ (Lc La Rc Ra : ℕ) where
   row-acts : (k S q : ℕ) → Part q branches S → acts (cre S) (ann S) k ≡ base k && each 64 (λ p. not (bit S p) || bit k p)
   row-acts k S q h =
       acts-is (cre S) (ann S) k
-      ∙ each-cong 64 _ _ (λ p l. ap₂ (λ (x y : Bool). fit x y (bit k p)) (bit-cre S p) (bit-ann S p)
+      ∙ each-cong 64 _ _ (λ p l. ap₂ (λ (x y : Bool). fit x y (bit k p)) (bit-cre Lc La Rc Ra S p) (bit-ann Lc La Rc Ra S p)
       ∙ row-digit (bit Lc p) (bit La p) (bit Rc p) (bit Ra p) (bit k p) (bit S p) (h .inside p))
       ∙ each-and 64 _ _
 
@@ -160,7 +100,7 @@ module _ (Lc La Rc Ra : ℕ) where
   module _ (good : (p : ℕ) → fine (bit Lc p) (bit La p) (bit Rc p) (bit Ra p) ≡ true) where
     row-flips : (S q : ℕ) → Part q branches S → bit (ann S) △ bit (cre S) ≡ flipped
     unfolding flipped _△_
-    row-flips S q h = fun-ext (λ p. ap₂ (λ (x y : Bool). x ⊕ y) (bit-ann S p) (bit-cre S p) ∙ flip-digit (bit Lc p) (bit La p) (bit Rc p) (bit Ra p) (bit S p) (h .inside p) (good p))
+    row-flips S q h = fun-ext (λ p. ap₂ (λ (x y : Bool). x ⊕ y) (bit-ann Lc La Rc Ra S p) (bit-cre Lc La Rc Ra S p) ∙ flip-digit (bit Lc p) (bit La p) (bit Rc p) (bit Ra p) (bit S p) (h .inside p) (good p))
 
     row-word : (k S q : ℕ) → Part q branches S → bitXor (bitXor k (ann S)) (cre S) ≡ last k
     unfolding last
@@ -168,7 +108,7 @@ module _ (Lc La Rc Ra : ℕ) where
         ext _ _ (λ p.
         bit-xor (bitXor k (ann S)) (cre S) p ∙ ap₂ (λ (x y : Bool). x ⊕ y) (bit-xor k (ann S) p) refl
         ∙ ⊕-assoc (bit k p) (bit (ann S) p) (bit (cre S) p)
-        ∙ ap (λ (x : Bool). bit k p ⊕ x) (ap₂ (λ (x y : Bool). x ⊕ y) (bit-ann S p) (bit-cre S p) ∙ flip-digit (bit Lc p) (bit La p) (bit Rc p) (bit Ra p) (bit S p) (h .inside p) (good p))
+        ∙ ap (λ (x : Bool). bit k p ⊕ x) (ap₂ (λ (x y : Bool). x ⊕ y) (bit-ann Lc La Rc Ra S p) (bit-cre Lc La Rc Ra S p) ∙ flip-digit (bit Lc p) (bit La p) (bit Rc p) (bit Ra p) (bit S p) (h .inside p) (good p))
         ∙ regroup (bit k p) (bit Ra p) (bit Rc p) (bit La p) (bit Lc p)
         ∙ sym (rw (bit-xor (bitXor (bitXor (bitXor k Ra) Rc) La) Lc p, bit-xor (bitXor (bitXor k Ra) Rc) La p, bit-xor (bitXor k Ra) Rc p, bit-xor k Ra p)))
       where
@@ -179,7 +119,7 @@ module _ (Lc La Rc Ra : ℕ) where
         → minus S ⊕ signOf (cre S) (ann S) k ≡ odd 64 (bit S) ⊕ shared k
     unfolding shared
     row-signs k S q h =
-        ap₂ (λ (m : Bool) (u : Modes). m ⊕ (oddExchanges 64 (bit k) (bit (ann S)) ⊕ oddExchanges 64 u (bit (cre S)))) (minus-is S) (bits-xor k (ann S))
+        ap₂ (λ (m : Bool) (u : Modes). m ⊕ (oddExchanges 64 (bit k) (bit (ann S)) ⊕ oddExchanges 64 u (bit (cre S)))) (minus-is Lc La Rc Ra S) (bits-xor k (ann S))
         ∙ row-sign 64 (odd 64 (bit S)) (joined 64 (bit Lc) (bit La) (bit Rc) (bit Ra)) (bit k) (bit (ann S)) (bit (cre S))
         ∙ ap (λ (u : Modes). odd 64 (bit S) ⊕ (joined 64 (bit Lc) (bit La) (bit Rc) (bit Ra) ⊕ oddExchanges 64 (bit k) u)) (row-flips S q h)
 

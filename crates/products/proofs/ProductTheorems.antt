@@ -27,7 +27,8 @@ use Rattle.products.specs.PhaseRule.{went, term}
 use Rattle.products.specs.Operators.{signed, adds, element}
 use Rattle.products.specs.Product.{branch, Other, choices, notEmpty, branching, creAt, minusAt, rowTimes, rowsTimes, noRoom, multiplied}
 use Rattle.products.proofs.Sums.{Part}
-use Rattle.products.proofs.ProductActs.{imp, mp, creD, bit-cre, product-acts}
+use Rattle.products.proofs.RowDigits.{imp, mp, creD, bit-cre}
+use Rattle.products.proofs.ProductActs.{product-acts}
 use Rattle.products.proofs.Choices.{choices-parts, choices-differ}
 use Rattle.products.proofs.Signs.{abs-signed}
 use Rattle.products.proofs.Multiplied.{rows-none, rows-number}

@@ -27,7 +27,8 @@ use Rattle.record.specs.Numbers.{stored}
 use Rattle.record.specs.Layout.{recordLength, header, column, encode, termsIn, columnPlaces}
 use Rattle.record.specs.Reading.{Holds}
 use Rattle.record.proofs.Reading.{length-terms, term-at}
-use Rattle.record.proofs.Inverse.{Small, columns-read, length-header, length-encode}
+use Rattle.record.proofs.Encoded.{length-header, length-encode}
+use Rattle.record.proofs.Inverse.{Small, columns-read}
 
 pub columns-apart : (n size : ℕ) → recordLength n ≤ size → Apart (columnPlaces n) n size
 columns-apart n size h = record {

@@ -6,8 +6,11 @@ pub mod Header
 pub mod Checking
 pub mod Order
 pub mod Accepted
+pub mod Encoded
 pub mod Inverse
 pub mod Coefficients
+pub mod Fewer
+pub mod OwnElement
 pub mod SameElements
 pub mod Columns
 pub mod Halving

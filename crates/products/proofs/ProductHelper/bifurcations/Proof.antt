@@ -1,5 +1,5 @@
 -- `products::ProductHelper::bifurcations` meets its contract, mode by mode.
-use Rattle.products.proofs.Multiplied.{bifurcating}
+use Rattle.products.proofs.HelperWords.{bifurcating}
 use Rattle.products.proofs.ProductHelper.bifurcations.Statement.{statement}
 use Rattle.products.proofs.ProductHelper.bifurcations.Tie as tie
 

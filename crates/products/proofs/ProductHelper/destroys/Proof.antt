@@ -6,7 +6,7 @@ use lib.Bits.{bitAnd}
 use lib.Dec.{eqb}
 use borrow.Author.Tests.{ne-eqb, eqb-true, eqb-false}
 use Rattle.products.specs.Product.{notEmpty}
-use Rattle.products.proofs.Multiplied.{full-where, empty-created, empty-annihilated}
+use Rattle.products.proofs.HelperWords.{full-where, empty-created, empty-annihilated}
 use Rattle.products.proofs.ProductHelper.destroys.Statement.{statement}
 use Rattle.products.proofs.ProductHelper.destroys.Tie as tie
 

@@ -8,7 +8,7 @@ use Rattle.lent.proofs.RowLaws.{term-of}
 use Rattle.products.specs.Operators.{signed}
 use Rattle.products.specs.Product.{minusAt}
 use Rattle.products.proofs.Signs.{abs-signed}
-use Rattle.products.proofs.Multiplied.{lowest-sign}
+use Rattle.products.proofs.HelperWords.{lowest-sign}
 use borrow.Author.Needs.{needs}
 use Rattle.products.proofs.ProductHelper.lowest_row.Statement.{statement}
 use Rattle.products.proofs.ProductHelper.lowest_row.Tie as tie
