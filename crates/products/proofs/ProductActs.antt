@@ -100,7 +100,9 @@ module _ (Lc La Rc Ra : ℕ) where
   module _ (good : (p : ℕ) → fine (bit Lc p) (bit La p) (bit Rc p) (bit Ra p) ≡ true) where
     row-flips : (S q : ℕ) → Part q branches S → bit (ann S) △ bit (cre S) ≡ flipped
     unfolding flipped _△_
-    row-flips S q h = fun-ext (λ p. ap₂ (λ (x y : Bool). x ⊕ y) (bit-ann Lc La Rc Ra S p) (bit-cre Lc La Rc Ra S p) ∙ flip-digit (bit Lc p) (bit La p) (bit Rc p) (bit Ra p) (bit S p) (h .inside p) (good p))
+    row-flips S q h =
+        fun-ext (λ p. ap₂ (λ (x y : Bool). x ⊕ y) (bit-ann Lc La Rc Ra S p) (bit-cre Lc La Rc Ra S p)
+        ∙ flip-digit (bit Lc p) (bit La p) (bit Rc p) (bit Ra p) (bit S p) (h .inside p) (good p))
 
     row-word : (k S q : ℕ) → Part q branches S → bitXor (bitXor k (ann S)) (cre S) ≡ last k
     unfolding last
@@ -108,7 +110,8 @@ module _ (Lc La Rc Ra : ℕ) where
         ext _ _ (λ p.
         bit-xor (bitXor k (ann S)) (cre S) p ∙ ap₂ (λ (x y : Bool). x ⊕ y) (bit-xor k (ann S) p) refl
         ∙ ⊕-assoc (bit k p) (bit (ann S) p) (bit (cre S) p)
-        ∙ ap (λ (x : Bool). bit k p ⊕ x) (ap₂ (λ (x y : Bool). x ⊕ y) (bit-ann Lc La Rc Ra S p) (bit-cre Lc La Rc Ra S p) ∙ flip-digit (bit Lc p) (bit La p) (bit Rc p) (bit Ra p) (bit S p) (h .inside p) (good p))
+        ∙ ap (λ (x : Bool). bit k p ⊕ x) (ap₂ (λ (x y : Bool). x ⊕ y) (bit-ann Lc La Rc Ra S p) (bit-cre Lc La Rc Ra S p)
+        ∙ flip-digit (bit Lc p) (bit La p) (bit Rc p) (bit Ra p) (bit S p) (h .inside p) (good p))
         ∙ regroup (bit k p) (bit Ra p) (bit Rc p) (bit La p) (bit Lc p)
         ∙ sym (rw (bit-xor (bitXor (bitXor (bitXor k Ra) Rc) La) Lc p, bit-xor (bitXor (bitXor k Ra) Rc) La p, bit-xor (bitXor k Ra) Rc p, bit-xor k Ra p)))
       where

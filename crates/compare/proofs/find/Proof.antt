@@ -44,7 +44,9 @@ loop-again c =
     let s = at-next .next .ensures in
     let v = at-loop .loop .inv in
     let left-at : ℕ → ℕ → List Term = onward true (a .a .now) (a .na) (a .b .now) (a .nb) in
-    (s .left-in, s .right-in, finding-goes _ (left-at (at-loop .loop .i) (at-loop .loop .j)) (left-at (at-next .next .result .left) (at-next .next .result .right)) _ _ _ (v .2) (s .front) (c .with-term .ensures))
+    let left : List Term = left-at (at-loop .loop .i) (at-loop .loop .j) in
+    let rest : List Term = left-at (at-next .next .result .left) (at-next .next .result .right) in
+    (s .left-in, s .right-in, finding-goes _ left rest _ _ _ (v .2) (s .front) (c .with-term .ensures))
 
 returns : tie.Need-returns Inv-loop μ-loop
 returns c =

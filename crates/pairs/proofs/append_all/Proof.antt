@@ -48,7 +48,9 @@ returns c =
     let got = c .before .before .before .before .before .before .read-term in
     let with-b : Term → List Term = λ t. rowsWith (s .args .both) (s .args .sign .0) t (termsIn (s .args .b .now) (s .args .nb)) in
     let next = by-front _++_ [] with-b (got .ensures) in
-    from-nothing _ (s .args .work .now) _ _ (progress-over _ _ (s .args .work .now) _ (v .work) (v .at) (v .inv .1) (with-b (got .result)) _ next (step .last .1 .1 .0) (step .result) (step .kept .1 .1 .0) (step .ensures) (c .if1 .taken))
+    from-nothing _ (s .args .work .now) _ _
+    (progress-over _ _ (s .args .work .now) _ (v .work) (v .at) (v .inv .1) (with-b (got .result)) _ next
+    (step .last .1 .1 .0) (step .result) (step .kept .1 .1 .0) (step .ensures) (c .if1 .taken))
 
 add-i : tie.Need-add-i Inv-loop μ-loop
 add-i c = search needs
@@ -65,7 +67,8 @@ loop-again c =
     let with-b : Term → List Term = λ t. rowsWith (s .args .both) (s .args .sign .0) t (termsIn (s .args .b .now) (s .args .nb)) in
     let next = by-front _++_ [] with-b (got .ensures) in (
       omega (arith, c .before .before .before .before .before .before .before .loop-test),
-      progress-goes _ _ (s .args .work .now) _ (v .work) (v .at) (v .inv .1) (with-b (got .result)) _ next (step .last .1 .1 .0) (step .result) (step .kept .1 .1 .0) (step .ensures) (c .if1 .left),
+      progress-goes _ _ (s .args .work .now) _ (v .work) (v .at) (v .inv .1) (with-b (got .result)) _ next
+          (step .last .1 .1 .0) (step .result) (step .kept .1 .1 .0) (step .ensures) (c .if1 .left),
     )
 
 same-length-2 : tie.Need-same-length-2 Inv-loop μ-loop

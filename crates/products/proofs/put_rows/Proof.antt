@@ -68,7 +68,8 @@ returns-2 c =
       walked .0 ∙ walk-ends (s .args .helper) _ (s .fits .left .fits) (s .args .coeff) _ (length (s .args .out .now)) (s .pre .0),
       _∙_ {b = filled (walk (count 64 (bit (s .args .left))) (s .args .left) (lowest-row .result))} (walked .1)
           (ap filled
-          (walk-is (s .args .helper) _ (s .fits .left .fits) (s .args .coeff) _ (length (s .args .out .now)) (s .pre .0) _ (lowest (s .args .helper) (s .fits .coeff) _ (lowest-row .ensures .0)))),
+          (walk-is (s .args .helper) _ (s .fits .left .fits) (s .args .coeff) _ (length (s .args .out .now)) (s .pre .0) _
+          (lowest (s .args .helper) (s .fits .coeff) _ (lowest-row .ensures .0)))),
     )
 
 pub put-rows-spec : {M : Type 1} → statement M
