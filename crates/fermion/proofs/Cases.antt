@@ -1,7 +1,7 @@
 -- All numbered cases hold: by computation, and case 9 for every ket.
 use mathlib.Core.Path.{refl, ap}
 use mathlib.Core.Bool.{false}
-use Rattle.modes.specs.Refusals.{unless}
+use Rattle.modes.specs.Refusals.{unless, orElse}
 use Rattle.modes.specs.Bools.{_⊕_}
 use Rattle.modes.specs.Words.{bit, each}
 use Rattle.modes.specs.Counts.{count, odd, oddExchanges}
@@ -15,7 +15,6 @@ use Rattle.record.specs.Numbers.{stored, numbers, sameNumbers}
 use Rattle.record.specs.Terms.{before, weight}
 use Rattle.record.specs.Example.{example}
 use Rattle.record.specs.Layout.{header, column, columns, together, termsIn, laidOut}
-use Rattle.modes.specs.Refusals.{orElse}
 use Rattle.modes.specs.Spaces.{inside}
 use Rattle.record.specs.Refusals.{termRefusal, termsRefusal, refusalOf}
 use Rattle.normal.specs.Normal.{join, insert, collect, dropZeros}

@@ -22,7 +22,6 @@ use Rattle.lent.specs.Outputs.{Output, refusedOutput, filledOutput}
 use Rattle.record.specs.Layout.{encode, totalOf}
 use Rattle.multiply.specs.Answers.{commutatorOf, Leaves}
 use Rattle.reply.specs.Replies.{holdsFirst, answerTo, textOf, Says, Replies, firstOf, secondOf}
-use Rattle.record.specs.Layout.{totalOf}
 use Rattle.reply.specs.Lines.{lineIn}
 
 pub leaves-as : {o q : Output} {r : Written} {x : List ℕ} {room : ℕ} {w : List ℕ} → o ≡ q → Leaves o r x room w → Leaves q r x room w

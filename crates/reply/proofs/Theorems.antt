@@ -33,7 +33,6 @@ use Rattle.reply.specs.Reported.{Commutator, Reported, line, result}
 use Rattle.reply.proofs.Replies.{total-decides}
 use Rattle.reply.proofs.Bounds.{lawful-line, lawful-answer}
 use Rattle.reply.specs.Replies.{firstOf, secondOf, holdsFirst, answerTo, textOf, replyTo, workSize, roomSize, Says}
-use Rattle.record.specs.Layout.{totalOf}
 
 -- ---- the number 1
 
