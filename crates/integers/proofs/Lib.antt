@@ -1,1 +1,2 @@
 pub mod SignedNumbers
+pub mod Unique

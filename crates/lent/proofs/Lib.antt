@@ -3,3 +3,4 @@ pub mod Puts
 pub mod NumbersAt
 pub mod RowLaws
 pub mod Outputs
+pub mod Unique
