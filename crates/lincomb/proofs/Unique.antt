@@ -3,25 +3,21 @@ use mathlib.Core.Path.{_≡_, sym, _∙_}
 use mathlib.Core.Bool.{Bool}
 use mathlib.Core.List.{List, _∷_}
 use Prim.Native.Nat.{ℕ}
-use Rattle.record.specs.Operands.{readAs}
+use Rattle.record.specs.Operands.{Operand}
 use Rattle.modes.specs.declared.Term.{Term}
-use Rattle.modes.specs.declared.Refusal.{Refusal}
 use Rattle.modes.specs.declared.Written.{Written}
-use Rattle.lent.specs.Outputs.{Gives, refusedOutput}
+use Rattle.lent.specs.Outputs.{Gives}
 use Rattle.lent.proofs.Outputs.{gives-one}
 use Rattle.modes.proofs.Unique.{one}
 use Rattle.lincomb.specs.Sums.{turn, added, subtracted}
 use Rattle.lincomb.specs.Merging.{onward, Pulled}
 use Rattle.lincomb.specs.declared.Step.{Step}
 
-pub one-sum : (room : ℕ) (a b : List ℕ) (r s : Written) (x y : List ℕ) → Gives (added room (readAs 1 a) (readAs 2 b)) r x → Gives (added room (readAs 1 a) (readAs 2 b)) s y → (r ≡ s) × (x ≡ y)
+pub one-sum : (room : ℕ) (a b : Operand) (r s : Written) (x y : List ℕ) → Gives (added room a b) r x → Gives (added room a b) s y → (r ≡ s) × (x ≡ y)
 one-sum room a b r s x y = gives-one
 
-pub one-difference : (room : ℕ) (a b : List ℕ) (r s : Written) (x y : List ℕ) → Gives (subtracted room (readAs 1 a) (readAs 2 b)) r x → Gives (subtracted room (readAs 1 a) (readAs 2 b)) s y → (r ≡ s) × (x ≡ y)
+pub one-difference : (room : ℕ) (a b : Operand) (r s : Written) (x y : List ℕ) → Gives (subtracted room a b) r x → Gives (subtracted room a b) s y → (r ≡ s) × (x ≡ y)
 one-difference room a b r s x y = gives-one
-
-pub one-refused : (room : ℕ) (f : Refusal) (r s : Written) (x y : List ℕ) → Gives (refusedOutput room f) r x → Gives (refusedOutput room f) s y → (r ≡ s) × (x ≡ y)
-one-refused room f r s x y = gives-one
 
 pub one-turned : (minus : Bool) (t r s : Term) → r ≡ turn minus t → s ≡ turn minus t → r ≡ s
 one-turned minus t r s = one

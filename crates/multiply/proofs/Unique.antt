@@ -2,7 +2,7 @@
 use mathlib.Core.Path.{_≡_, sym, _∙_}
 use mathlib.Core.List.{List}
 use Prim.Native.Nat.{ℕ}
-use Rattle.record.specs.Operands.{readAs}
+use Rattle.record.specs.Operands.{Operand}
 use Rattle.modes.specs.declared.Written.{Written}
 use Rattle.lent.specs.Outputs.{Output}
 use Rattle.lent.proofs.Outputs.{gives-one}
@@ -11,12 +11,12 @@ use Rattle.multiply.specs.Answers.{productOf, commutatorOf, anticommutat
 pub leaves-one : {o : Output} {r s : Written} {x y : List ℕ} {room : ℕ} {w v : List ℕ} → Leaves o r x room w → Leaves o s y room v → (r ≡ s) × (x ≡ y) × (w ≡ v)
 leaves-one g h = let one = gives-one (g .output) (h .output) in (one .0, one .1, g .clean ∙ sym (h .clean))
 
-module _ (work room : ℕ) (a b : List ℕ) (r s : Written) (x y w v : List ℕ) where
-  pub one-product : Leaves (productOf work room (readAs 1 a) (readAs 2 b)) r x work w → Leaves (productOf work room (readAs 1 a) (readAs 2 b)) s y work v → (r ≡ s) × (x ≡ y) × (w ≡ v)
+module _ (work room : ℕ) (a b : Operand) (r s : Written) (x y w v : List ℕ) where
+  pub one-product : Leaves (productOf work room a b) r x work w → Leaves (productOf work room a b) s y work v → (r ≡ s) × (x ≡ y) × (w ≡ v)
   one-product = leaves-one
 
-  pub one-commutator : Leaves (commutatorOf work room (readAs 1 a) (readAs 2 b)) r x work w → Leaves (commutatorOf work room (readAs 1 a) (readAs 2 b)) s y work v → (r ≡ s) × (x ≡ y) × (w ≡ v)
+  pub one-commutator : Leaves (commutatorOf work room a b) r x work w → Leaves (commutatorOf work room a b) s y work v → (r ≡ s) × (x ≡ y) × (w ≡ v)
   one-commutator = leaves-one
 
-  pub one-anticommutator : Leaves (anticommutatorOf work room (readAs 1 a) (readAs 2 b)) r x work w → Leaves (anticommutatorOf work room (readAs 1 a) (readAs 2 b)) s y work v → (r ≡ s) × (x ≡ y) × (w ≡ v)
+  pub one-anticommutator : Leaves (anticommutatorOf work room a b) r x work w → Leaves (anticommutatorOf work room a b) s y work v → (r ≡ s) × (x ≡ y) × (w ≡ v)
   one-anticommutator = leaves-one

@@ -3,3 +3,4 @@ pub mod Appending
 pub mod Filling
 pub mod Pairing
 pub mod Counting
+pub mod Unique

@@ -1,4 +1,4 @@
--- No two answers meet a promise of this crate.
+-- No two answers meet a promise of this crate but that of `sort_terms`, which leaves open in which order terms of one key come to stand: what it fixes is `one-sums` of crate rows.
 use mathlib.Core.Path.{_≡_, sym, _∙_}
 use mathlib.Core.Bool.{Bool}
 use mathlib.Core.List.{List, _∷_}
@@ -7,10 +7,11 @@ use lib.IntN.{natAbs}
 use lib.ListN.{drop, length, set}
 use Rattle.modes.specs.declared.Term.{Term}
 use Rattle.modes.specs.declared.Written.{Written}
+use Rattle.modes.proofs.Unique.{one}
 use Rattle.lent.specs.Outputs.{filledOutput, Gives}
 use Rattle.lent.proofs.Outputs.{gives-one}
 use Rattle.record.specs.Terms.{before}
-use Rattle.record.specs.Layout.{encode, termsIn}
+use Rattle.record.specs.Layout.{encode, termsIn, recordLength}
 use Rattle.record.specs.Refusals.{checkedOf}
 use Rattle.record.specs.Reading.{At}
 use Rattle.record.specs.Weights.{heavierBy}
@@ -19,12 +20,11 @@ use Rattle.record.specs.Counting.{countIf, earlier}
 use Rattle.record.specs.declared.Checked.{Checked}
 use Rattle.record.specs.declared.Stretch.{Stretch}
 
--- what equals one value is one
-pub one : {A : Type 0} {x r s : A} → r ≡ x → s ≡ x → r ≡ s
-one p q = p ∙ sym q
-
 pub one-check : (o : ℕ) (l : List ℕ) (r s : Checked) → r ≡ checkedOf o l → s ≡ checkedOf o l → r ≡ s
 one-check o l r s = one
+
+pub one-length : (n r s : ℕ) → r ≡ recordLength n → s ≡ recordLength n → r ≡ s
+one-length n r s = one
 
 -- a list has one i-th term
 pub one-term : (l : List ℕ) (n i : ℕ) (r s : Term) → At (termsIn l n) i r → At (termsIn l n) i s → r ≡ s

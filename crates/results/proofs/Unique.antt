@@ -18,6 +18,6 @@ one-opening a b r s = one
 pub one-verdict : (room n w : ℕ) (r s : Refusal) → r ≡ resultRefusal room n w → s ≡ resultRefusal room n w → r ≡ s
 one-verdict room n w r s = one
 
-pub one-delivery : (room branches m : ℕ) (ts : List Term) (r s : Written) (x y : List ℕ) → Gives (resultOf room branches none m ts) r x → Gives (resultOf room branches none m ts) s y
-    → (r ≡ s) × (x ≡ y)
+pub one-delivery : (room branches m : ℕ) (ts : List Term) (r s : Written) (x y : List ℕ) → Gives (resultOf room branches none m ts) r x
+    → Gives (resultOf room branches none m ts) s y → (r ≡ s) × (x ≡ y)
 one-delivery room branches m ts r s x y = gives-one
