@@ -41,7 +41,8 @@ pub not-refused : (a b : List ℕ) (r : Compared) → r ≡ comparedOf (readAs 1
 not-refused a b r e x y m =
     let pair : operandsRefusal (readAs 1 a) (readAs 2 b) ≡ none =
     rw (accepted-none 1 a x, accepted-none 2 b y, eq-eqb (modesOf a) (modesOf b) m) (or-second none _ refl ∙ or-second none _ refl) in
-    ap (λ (c : Compared). c .refusal) e ∙ rw (pair, unless-not none refusedComparison (named (differing (termsOf a) (termsOf b))) refl) (named-unrefused (differing (termsOf a) (termsOf b)))
+    ap (λ (c : Compared). c .refusal) e ∙ rw (pair, unless-not none refusedComparison (named (differing (termsOf a) (termsOf b))) refl)
+    (named-unrefused (differing (termsOf a) (termsOf b)))
 
 -- an answer that is no refusal
 record Answers (a b : List ℕ) (r : Compared) : Type 0 where

@@ -60,5 +60,7 @@ apart (x ∷ xs) (y ∷ ys) us vs end h (more k ks) (more l ls) e =
 pub field-apart : (m n end : ℕ) (us vs : List ℕ) → end < 48 → field m end ++ us ≡ field n end ++ vs → (m ≡ n) × (us ≡ vs)
 unfolding decimal
 field-apart m n end us vs h e =
-    let both = apart (decimal m) (decimal n) us vs end h (all-digits (suc m) m) (all-digits (suc n) n) (sym (append-assoc (decimal m) (end ∷ []) us) ∙ e ∙ append-assoc (decimal n) (end ∷ []) vs) in
+    let both =
+    apart (decimal m) (decimal n) us vs end h (all-digits (suc m) m) (all-digits (suc n) n)
+    (sym (append-assoc (decimal m) (end ∷ []) us) ∙ e ∙ append-assoc (decimal n) (end ∷ []) vs) in
     (decimal-one m n (both .0), both .1)

@@ -24,7 +24,9 @@ use Rattle.multiply.specs.Answers.{weightRefusal, workRefusal}
 use Rattle.fermion.specs.Cases.{cases, AllHold}
 
 pub cases-hold : AllHold cases
-unfolding unless term ladders ladder bit odd oddExchanges each choices rowsTimes _⊕_ count sumOf bytes num numAt stored numbers sameNumbers before weight header column columns together termsIn laidOut orElse inside termRefusal termsRefusal refusalOf join insert collect dropZeros resultRefusal pairRows allBranches weightRefusal workRefusal example
+unfolding unless term ladders ladder bit odd oddExchanges each choices rowsTimes _⊕_ count sumOf bytes num numAt stored numbers sameNumbers before weight header column
+    columns together termsIn laidOut orElse inside termRefusal termsRefusal refusalOf join insert collect dropZeros resultRefusal pairRows allBranches weightRefusal
+    workRefusal example
 cases-hold = (
   refl,
   (

@@ -13,7 +13,8 @@ use Rattle.fermion.specs.Face.{writtenAnswer, Fills, FillsClean, floatVa
 pub fills : {o : Output} {w : Written} {out answer : List ℕ} → Gives o w out → answer ≡ writtenAnswer w → Fills o out answer
 fills g e = record { bytes = g .bytes; numbers = e ∙ ap writtenAnswer (g .answer) }
 
-pub fills-clean : {o : Output} {w : Written} {out answer : List ℕ} {room : ℕ} {work : List ℕ} → Leaves o w out room work → answer ≡ writtenAnswer w → FillsClean o out answer room work
+pub fills-clean : {o : Output} {w : Written} {out answer : List ℕ} {room : ℕ} {work : List ℕ} → Leaves o w out room work → answer ≡ writtenAnswer w
+    → FillsClean o out answer room work
 fills-clean g e = record { fills = fills (g .output) e; clean = g .clean }
 
 pub fills-float : {t : Told} {value : List Float} {answer : List ℕ} (e : FloatElement) → toldBy e ≡ t → value ≡ floatValues (toldBy e) → answer ≡ floatAnswer (toldBy e)

@@ -51,7 +51,9 @@ abbrev onePart : Told → Told
 onePart t = record { refusal = t .refusal; values = take 1 (t .values) }
 
 unless-one : (r : Refusal) (x y : Float) → unless r noValues (valued (x ∷ [])) ≡ onePart (unless r noValues (valued (x ∷ y ∷ [])))
-unless-one r x y = by-number r (λ z. rw (unless-not r noValues (valued (x ∷ [])) z, unless-not r noValues (valued (x ∷ y ∷ [])) z)) (λ h. rw (unless-so r noValues (valued (x ∷ [])) h, unless-so r noValues (valued (x ∷ y ∷ [])) h))
+unless-one r x y =
+    by-number r (λ z. rw (unless-not r noValues (valued (x ∷ [])) z, unless-not r noValues (valued (x ∷ y ∷ [])) z))
+    (λ h. rw (unless-so r noValues (valued (x ∷ [])) h, unless-so r noValues (valued (x ∷ y ∷ [])) h))
 
 finite-twice : (x : Float) → allFinite (x ∷ x ∷ []) ≡ allFinite (x ∷ [])
 finite-twice x = and-self-left (finite x) true

@@ -2,7 +2,8 @@
 use mathlib.Core.Path.{_≡_, refl, sym, ap, _∙_, subst}
 use mathlib.Core.Bool.{Bool, true, false, _&&_}
 use Prim.Native.Nat.{ℕ, zero, suc, _+_, _-_, _*_, _^_, _%_, _≤_, _<_}
-use native.Mathlib.Nat.{lt-irrefl, zero-mul, mul-one, one-mul, mul-assoc, mul-left-comm, mul-pos, pow-suc, pow-succ', zero-lt-suc, zero-add, eq-of-mul-eq-mul-right, sub-zero, lt-of-not-le, le-of-suc-le-suc, not-le-of-lt, lt-of-lt-of-le, add-comm}
+use native.Mathlib.Nat.{lt-irrefl, zero-mul, mul-one, one-mul, mul-assoc, mul-left-comm, mul-pos, pow-suc, pow-succ'}
+use native.Mathlib.Nat.{zero-lt-suc, zero-add, eq-of-mul-eq-mul-right, sub-zero, lt-of-not-le, le-of-suc-le-suc, not-le-of-lt, lt-of-lt-of-le, add-comm}
 use native.Mathlib.Omega.{arith}
 use borrow.Author.Tests.{lt-ltb}
 use lib.IntN.{ℤ, pos, negsuc}
@@ -52,7 +53,8 @@ own : (f : Format) (x : Float) (s : Bool) (m : ℕ) (e : ℤ) → T (fits f x) �
 own f nan s m e p q v = absurd v
 own f (inf t) s m e p q v = absurd v
 own f (fin t zero g) s m e p q v =
-    absurd (lt-irrefl 0 (subst (λ (x : ℕ). 0 < x) (sym (v .1) ∙ ap (λ (x : ℕ). x * down e) (zero-mul (up g)) ∙ zero-mul (down e)) (mul-pos (mul-pos (zero-lt-suc m) (up-pos e)) (down-pos g))))
+    absurd (lt-irrefl 0 (subst (λ (x : ℕ). 0 < x) (sym (v .1) ∙ ap (λ (x : ℕ). x * down e) (zero-mul (up g)) ∙ zero-mul (down e))
+    (mul-pos (mul-pos (zero-lt-suc m) (up-pos e)) (down-pos g))))
 own f (fin t (suc n) g) s m e p q v =
     let r = cross-odd (suc n) (suc m) g e (is-odd f t n g p) (is-odd f s m e q) (v .1) in
     λ i. fin (v .0 i) (r .0 i) (r .1 i)
@@ -68,7 +70,8 @@ small f s m e t =
     let b = and-l (eqb (suc m % 2) 1 && ltb (suc m) (2 ^ prec f)) (leb (down e) (2 ^ low f)) a in (
       ltb→lt (suc m) (2 ^ prec f) (and-r (eqb (suc m % 2) 1) (ltb (suc m) (2 ^ prec f)) b),
       leb→le (down e) (2 ^ low f) (and-r (eqb (suc m % 2) 1 && ltb (suc m) (2 ^ prec f)) (leb (down e) (2 ^ low f)) a),
-      ltb→lt (suc m * up e) (2 ^ suc (emax f) * down e) (and-r (eqb (suc m % 2) 1 && ltb (suc m) (2 ^ prec f) && leb (down e) (2 ^ low f)) (ltb (suc m * up e) (2 ^ suc (emax f) * down e)) t),
+      ltb→lt (suc m * up e) (2 ^ suc (emax f) * down e)
+          (and-r (eqb (suc m % 2) 1 && ltb (suc m) (2 ^ prec f) && leb (down e) (2 ^ low f)) (ltb (suc m * up e) (2 ^ suc (emax f) * down e)) t),
     )
 
 room : (l k p x : ℕ) → suc k ≤ l → p ≤ x → p + (l - suc k) ≤ l + x
@@ -83,7 +86,8 @@ round-own f s m (pos k) t =
     let x : suc m * 2 ^ k * 2 ^ low f ≡ suc m * 2 ^ (k + low f) = mul-assoc (suc m) (2 ^ k) (2 ^ low f) ∙ ap (λ (z : ℕ). suc m * z) (sym (pow-add 2 k (low f))) in
     let y : suc m * 2 ^ k < 2 ^ suc (emax f) = subst (λ (z : ℕ). suc m * 2 ^ k < z) (mul-one (2 ^ suc (emax f))) (b .2) in
     let w : suc m * 2 ^ (k + low f) < 2 ^ (low f + suc (emax f)) =
-    subst (λ (z : ℕ). z < 2 ^ (low f + suc (emax f))) x (subst (λ (z : ℕ). suc m * 2 ^ k * 2 ^ low f < 2 ^ z) (add-comm (suc (emax f)) (low f)) (shl-lt (suc (emax f)) (low f) y)) in
+    subst (λ (z : ℕ). z < 2 ^ (low f + suc (emax f))) x
+    (subst (λ (z : ℕ). suc m * 2 ^ k * 2 ^ low f < 2 ^ z) (add-comm (suc (emax f)) (low f)) (shl-lt (suc (emax f)) (low f) y)) in
     own f (round f s (suc m * 2 ^ k) 1) s m (pos k) (round-fits f s (suc m * 2 ^ k) 1) t
     (round-exact f s (suc m * 2 ^ k) 1 (suc m) (k + low f) (zero-lt-suc 0) (b .0) w (x ∙ sym (mul-one (suc m * 2 ^ (k + low f)))))
 round-own f s m (negsuc k) t =
@@ -92,7 +96,8 @@ round-own f s m (negsuc k) t =
     let w : suc m * 2 ^ (low f - suc k) < 2 ^ (low f + suc (emax f)) =
     lt-of-lt-of-le (shl-lt (prec f) (low f - suc k) (b .0)) (pow-mono (room (low f) k (prec f) (suc (emax f)) g (reach f))) in
     let x : suc m * 1 * 2 ^ low f ≡ suc m * 2 ^ (low f - suc k) * 2 ^ suc k =
-    ap (λ (z : ℕ). z * 2 ^ low f) (mul-one (suc m)) ∙ ap (λ (z : ℕ). suc m * 2 ^ z) (sym (back (low f) k g)) ∙ ap (λ (z : ℕ). suc m * z) (pow-add 2 (low f - suc k) (suc k)) ∙ sym (mul-assoc (suc m) (2 ^ (low f - suc k)) (2 ^ suc k)) in
+    ap (λ (z : ℕ). z * 2 ^ low f) (mul-one (suc m)) ∙ ap (λ (z : ℕ). suc m * 2 ^ z) (sym (back (low f) k g)) ∙ ap (λ (z : ℕ). suc m * z)
+    (pow-add 2 (low f - suc k) (suc k)) ∙ sym (mul-assoc (suc m) (2 ^ (low f - suc k)) (2 ^ suc k)) in
     own f (round f s (suc m * 1) (2 ^ suc k)) s m (negsuc k) (round-fits f s (suc m * 1) (2 ^ suc k)) t
     (round-exact f s (suc m * 1) (2 ^ suc k) (suc m) (low f - suc k) (pow-pos (suc k)) (b .0) w x)
 

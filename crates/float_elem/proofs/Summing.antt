@@ -68,7 +68,8 @@ module _ (bra ket : ℕ) (cre ann : List ℕ) (re im : List Float) where
   unfolding sumTo
   sums-start i e = rw e (record { res = refl; ims = refl; fine = first-starts _ })
 
-  part-on : (cs : List Float) (i : ℕ) (x z : Float) → x ≡ sumTo bra ket cre ann cs i → z ≡ joined bra ket (getD cre i 0) (getD ann i 0) (getD cs i nan) x → z ≡ sumTo bra ket cre ann cs (suc i)
+  part-on : (cs : List Float) (i : ℕ) (x z : Float) → x ≡ sumTo bra ket cre ann cs i → z ≡ joined bra ket (getD cre i 0) (getD ann i 0) (getD cs i nan) x
+      → z ≡ sumTo bra ket cre ann cs (suc i)
   unfolding sumTo
   part-on cs i x z e h = h ∙ ap (joined bra ket (getD cre i 0) (getD ann i 0) (getD cs i nan)) e
 

@@ -47,7 +47,8 @@ module _ (bra ket : ℕ) (cre ann : List ℕ) where
 pub values-finite : (m : ℕ) (cre ann : List ℕ) (parts : List (List Float)) (bra ket : ℕ) → allFinite (floatElement m cre ann parts bra ket .values) ≡ true
 unfolding sumRefusal
 values-finite m cre ann parts bra ket =
-    either-way (orElse (inputRefusal m cre ann parts bra ket) (sumRefusal bra ket cre ann parts)) noValues (valued (sumsTo bra ket cre ann parts (length cre))) (λ t. allFinite (t .values) ≡ true)
+    either-way (orElse (inputRefusal m cre ann parts bra ket) (sumRefusal bra ket cre ann parts)) noValues (valued (sumsTo bra ket cre ann parts (length cre)))
+    (λ t. allFinite (t .values) ≡ true)
     (λ z. sums-finite bra ket cre ann parts (length cre) (neither _ _ z .1)) (λ h. refl)
 
 -- ---- exactly one joining term
@@ -91,7 +92,8 @@ module _ (bra ket : ℕ) (cre ann : List ℕ) (n i : ℕ) (s : Bool) (only : Onl
     joining : sumTo bra ket cre ann cs (suc i) ≡ came cs
     unfolding sumTo
     joining =
-        ap (addedFloat bra (getD cs i nan) (sumTo bra ket cre ann cs i)) (only .joins) ∙ rw (before i (omega arith), eq-eqb bra bra refl) (one-term _ (signed-fits s (getD cs i nan) (doubles i)))
+        ap (addedFloat bra (getD cs i nan) (sumTo bra ket cre ann cs i)) (only .joins) ∙ rw (before i (omega arith), eq-eqb bra bra refl)
+        (one-term _ (signed-fits s (getD cs i nan) (doubles i)))
 
     after : (d : ℕ) → suc i + d ≤ n → sumTo bra ket cre ann cs (suc i + d) ≡ came cs
     after zero l = rw (add-zero (suc i)) joining
@@ -133,4 +135,9 @@ unfolding inputRefusal sumRefusal unless
 one-joining m cre ann parts bra ket i s d z only =
     let terms = neither _ _ (neither _ _ z .1) .0 in
     let there = term-finite m i _ _ _ (first-none (termAt m cre ann parts) (length cre) i terms (only .inside)) in
-    rw (or-second (inputRefusal m cre ann parts bra ket) (sumRefusal bra ket cre ann parts) z, none-stops bra ket cre ann (length cre) i s only parts d there (length cre) (omega arith), all-came bra ket cre ann (length cre) i s only parts d)
+    rw (
+      or-second (inputRefusal m cre ann parts bra ket) (sumRefusal bra ket cre ann parts) z,
+      none-stops bra ket cre ann (length cre) i s only parts d there (length cre)
+          (omega arith),
+      all-came bra ket cre ann (length cre) i s only parts d,
+    )

@@ -71,7 +71,8 @@ rows-at p q o (t ∷ ts) e (more f fs) =
     let first : p ++ ((rowBytes t ++ rowsBytes ts) ++ q) ≡ p ++ (rowBytes t ++ (rowsBytes ts ++ q)) = simp append-assoc in
     let rest : p ++ ((rowBytes t ++ rowsBytes ts) ++ q) ≡ (p ++ rowBytes t) ++ (rowsBytes ts ++ q) = simp append-assoc in
     let far : length (p ++ rowBytes t) ≡ o + 24 = simp (length-append, length-row, e) in
-    λ i. (ap (λ (z : List ℕ). rowAt z o) first ∙ row-at p (rowsBytes ts ++ q) o t e f) i ∷ (ap (λ (z : List ℕ). rowsAt z (o + 24) (length ts)) rest ∙ rows-at (p ++ rowBytes t) q (o + 24) ts far fs) i
+    λ i. (ap (λ (z : List ℕ). rowAt z o) first ∙ row-at p (rowsBytes ts ++ q) o t e f) i ∷
+    (ap (λ (z : List ℕ). rowsAt z (o + 24) (length ts)) rest ∙ rows-at (p ++ rowBytes t) q (o + 24) ts far fs) i
 
 -- three words stored side by side are a row
 pub put-words : (l l1 l2 l3 : List ℕ) (o x : ℕ) (t : Term) → o + 24 ≤ length l → l1 ≡ putWord l o (t .ann) → l2 ≡ putWord l1 (o + 8) (t .cre)

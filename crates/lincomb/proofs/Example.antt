@@ -16,10 +16,13 @@ use Rattle.normal.specs.Normal.{join, insert, collect, dropZeros}
 use Rattle.results.specs.Results.{resultRefusal}
 use Rattle.lincomb.specs.Sums.{added, subtracted}
 
-pub twice : (added 82 (readAs 1 example) (readAs 2 example)) .bytes ≡ encode 2 (record { cre = 1; ann = 1; coeff = pos 2 } ∷ record { cre = 2; ann = 2; coeff = negsuc 1 } ∷ []) ++ zeros 2
-unfolding example bytes num numAt stored numbers sameNumbers before weight header column columns together termsIn laidOut orElse inside termRefusal termsRefusal refusalOf join insert collect dropZeros resultRefusal unless
+pub twice : (added 82 (readAs 1 example) (readAs 2 example)) .bytes ≡ encode 2
+    (record { cre = 1; ann = 1; coeff = pos 2 } ∷ record { cre = 2; ann = 2; coeff = negsuc 1 } ∷ []) ++ zeros 2
+unfolding example bytes num numAt stored numbers sameNumbers before weight header column columns together termsIn laidOut orElse inside termRefusal termsRefusal refusalOf
+    join insert collect dropZeros resultRefusal unless
 twice = refl
 
 pub nothing-left : (subtracted 34 (readAs 1 example) (readAs 2 example)) .answer ≡ wrote 32 0
-unfolding example bytes num numAt stored numbers sameNumbers before weight header column columns together termsIn laidOut orElse inside termRefusal termsRefusal refusalOf join insert collect dropZeros resultRefusal unless
+unfolding example bytes num numAt stored numbers sameNumbers before weight header column columns together termsIn laidOut orElse inside termRefusal termsRefusal refusalOf
+    join insert collect dropZeros resultRefusal unless
 nothing-left = refl

@@ -41,7 +41,8 @@ module _ (minus : Bool) (a b out : List ℕ) (p : Opened) (ep : p ≡ openedOf a
   pub pair-refused : (p .refusal .number ≡ 0 → ⊥) → refusedOutput (length out) (p .refusal) ≡ combined minus (length out) (readAs 1 a) (readAs 2 b)
   pair-refused h =
       let e = shuts a b p ep h in
-      rw e (refused-earlier (length out) 0 (operandsRefusal (readAs 1 a) (readAs 2 b)) _ (modesOf a) (sumTerms minus (readAs 1 a) (readAs 2 b)) (λ q. h (ap (λ (r : Refusal). r .number) e ∙ q)))
+      rw e (refused-earlier (length out) 0 (operandsRefusal (readAs 1 a) (readAs 2 b)) _ (modesOf a) (sumTerms minus (readAs 1 a) (readAs 2 b))
+      (λ q. h (ap (λ (r : Refusal). r .number) e ∙ q)))
 
   module _ (z : p .refusal .number ≡ 0) where
     ready : Opens a b p
@@ -69,7 +70,8 @@ module _ (minus : Bool) (a b out : List ℕ) (p : Opened) (ep : p ≡ openedOf a
           el ∙ verdict-same (length out) terms t g ∙ ap (λ (ts : List Term). resultRefusal (length out) (length ts) (weight ts)) terms-are
 
       pub result-refused : (late .number ≡ 0 → ⊥) → refusedOutput (length out) late ≡ combined minus (length out) (readAs 1 a) (readAs 2 b)
-      result-refused h = refused-late (length out) 0 (operandsRefusal (readAs 1 a) (readAs 2 b)) _ (modesOf a) (sumTerms minus (readAs 1 a) (readAs 2 b)) (ready .pair) late judged h
+      result-refused h =
+          refused-late (length out) 0 (operandsRefusal (readAs 1 a) (readAs 2 b)) _ (modesOf a) (sumTerms minus (readAs 1 a) (readAs 2 b)) (ready .pair) late judged h
 
       module _ (fine : late .number ≡ 0) where
         pub room-enough : Deliverable (length out) (t .terms) (t .weight)
@@ -86,11 +88,13 @@ module _ (minus : Bool) (a b out : List ℕ) (p : Opened) (ep : p ≡ openedOf a
 inside-turn : (m : ℕ) (minus : Bool) (t : Term) → Inside m t → Inside m (turn minus t)
 inside-turn m minus t h = record { ann = h .ann; cre = h .cre }
 
-module _ (minus : Bool) (room : ℕ) (a b : List ℕ) (r : Written) (after : List ℕ) (g : Gives (combined minus room (readAs 1 a) (readAs 2 b)) r after) (z : r .refusal .number ≡ 0) where
+module _ (minus : Bool) (room : ℕ) (a b : List ℕ) (r : Written) (after : List ℕ) (g : Gives (combined minus room (readAs 1 a) (readAs 2 b)) r after)
+    (z : r .refusal .number ≡ 0) where
   abbrev both : List Term
   both = termsOf a ++ map (turn minus) (termsOf b)
 
-  fine : ((operandsRefusal (readAs 1 a) (readAs 2 b)) .number ≡ 0) × ((resultRefusal room (length (sumTerms minus (readAs 1 a) (readAs 2 b))) (weight (sumTerms minus (readAs 1 a) (readAs 2 b)))) .number ≡ 0)
+  fine : ((operandsRefusal (readAs 1 a) (readAs 2 b)) .number ≡ 0) ×
+      ((resultRefusal room (length (sumTerms minus (readAs 1 a) (readAs 2 b))) (weight (sumTerms minus (readAs 1 a) (readAs 2 b)))) .number ≡ 0)
   fine = none-refused room 0 (operandsRefusal (readAs 1 a) (readAs 2 b)) _ (modesOf a) (sumTerms minus (readAs 1 a) (readAs 2 b)) r after g z
 
   form : Canonical (modesOf a) (sumTerms minus (readAs 1 a) (readAs 2 b))

@@ -35,7 +35,8 @@ module _ (a : List ℕ) (bra ket : ℕ) (c : Checked) (e : c ≡ checkedOf 1 a) 
       pub words-refused : (r .number ≡ 0 → ⊥) → refusedElement r ≡ elementOf (readAs 1 a) bra ket
       words-refused n = rw of-words (second-refuses (refusalOf 1 a) _ refusedElement _ (ok .number) (rw of-words at n))
 
-      pub element-found : r .number ≡ 0 → (v : ℤ) → v ≡ element bra ket (termsIn a (c .terms)) → _≡_ {A = Exact} (record { refusal = none; value = v }) (elementOf (readAs 1 a) bra ket)
+      pub element-found : r .number ≡ 0 → (v : ℤ) → v ≡ element bra ket (termsIn a (c .terms))
+          → _≡_ {A = Exact} (record { refusal = none; value = v }) (elementOf (readAs 1 a) bra ket)
       element-found y v p =
           (λ i. record { refusal = none; value = (p ∙ ap (element bra ket) (ok .terms)) i })
           ∙ neither-refuses (refusalOf 1 a) _ refusedElement _ (ok .number) (rw of-words at y)

@@ -41,7 +41,8 @@ module _ (w : ℕ) (basis : List ℕ) where
 
   pub still-without : (j : ℕ) → j < length basis → false ≡ stands w (take j basis) → (getD basis j 0 ≡ w → ⊥) → false ≡ stands w (take (j + 1) basis)
   still-without j h e n =
-      sym (ap (λ (k : ℕ). stands w (take k basis)) (add-one j) ∙ ap (stands w) (take-suc basis j 0 h) ∙ stands-last w (getD basis j 0) (take j basis) ∙ rw (← e, ne-eqb (getD basis j 0) w n))
+      sym (ap (λ (k : ℕ). stands w (take k basis)) (add-one j) ∙ ap (stands w) (take-suc basis j 0 h) ∙ stands-last w (getD basis j 0) (take j basis) ∙ rw
+      (← e, ne-eqb (getD basis j 0) w n))
 
   pub found-among : (i j : ℕ) → i ≤ length basis → j < i → getD basis j 0 ≡ w → true ≡ stands w (take i basis)
   found-among i j h k e =

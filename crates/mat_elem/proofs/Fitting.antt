@@ -77,7 +77,8 @@ module _ (ts : List Term) (light : weight ts ≤ 2 ^ 60) (basis : List ℕ) (few
       record {
         count = length-eight (λ ket. element bra ket ts) (pos 0) basis few;
         fits = λ j h.
-            each-eight (λ ket. element bra ket ts) (pos 0) (SFits w64) (λ ket. abs-fits _ (omega (arith, element-small bra ket ts))) (abs-fits (pos 0) (omega arith)) basis few j (pos 0) h;
+            each-eight (λ ket. element bra ket ts) (pos 0) (SFits w64) (λ ket. abs-fits _ (omega (arith, element-small bra ket ts)))
+            (abs-fits (pos 0) (omega arith)) basis few j (pos 0) h;
       }
 
   matrix-rows : EightRows (matrixOf ts basis)

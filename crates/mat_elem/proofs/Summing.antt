@@ -49,7 +49,8 @@ module _ (bra ket : ℕ) (ts : List Term) where
   pub sum-starts : weight ts ≤ 2 ^ 60 → Summed bra ket ts (pos 0) 0
   sum-starts h = record { rest = +ℤ-idl (element bra ket ts); light = rw (zero-add (weight ts)) h }
 
-  front : (i : ℕ) (t : Term) → At ts i t → (element bra ket (drop i ts) ≡ part bra ket t +ℤ element bra ket (drop (i + 1) ts)) × (weight (drop i ts) ≡ natAbs (t .coeff) + weight (drop (i + 1) ts))
+  front : (i : ℕ) (t : Term) → At ts i t
+      → (element bra ket (drop i ts) ≡ part bra ket t +ℤ element bra ket (drop (i + 1) ts)) × (weight (drop i ts) ≡ natAbs (t .coeff) + weight (drop (i + 1) ts))
   unfolding sumOf weight
   front i t e = (ap (element bra ket) e, ap weight e)
 

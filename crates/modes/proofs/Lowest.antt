@@ -58,7 +58,8 @@ lowest = bin-ind (λ (r : ℕ). 0 < r → Lowest r) (λ h. absurd (lt-irrefl 0 h
 
     odds : (r : ℕ) → r ≡ r / 2 * 2 + 1 → Lowest r
     odds r e =
-        let c : bitAnd r (r - 1) ≡ r / 2 * 2 = clear r (r / 2) 1 0 (omega arith) (omega arith) (omega arith) ∙ ap (λ (x : ℕ). x * 2 + 0) (and-self (r / 2)) ∙ add-zero (r / 2 * 2) in
+        let c : bitAnd r (r - 1) ≡ r / 2 * 2 =
+        clear r (r / 2) 1 0 (omega arith) (omega arith) (omega arith) ∙ ap (λ (x : ℕ). x * 2 + 0) (and-self (r / 2)) ∙ add-zero (r / 2 * 2) in
         record { at = 0; sum = omega arith; apart = ap (λ (x : ℕ). bitAnd x 1) c ∙ and-mask (r / 2 * 2) 1 ∙ omega arith; clean = λ i l. absurd (not-suc-le-zero l) }
 
     below : (r : ℕ) → r % 2 ≡ 0 → (h : Lowest (r / 2)) (i : ℕ) → i < suc (h .at) → bit r i ≡ false

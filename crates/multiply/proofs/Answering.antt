@@ -56,7 +56,8 @@ module _ (both minus : Bool) (a b : List ℕ) (work room : ℕ) (p : Opened) (ep
   heavy = weightRefusal (weight (termsOf a)) (weight (termsOf b))
 
   -- refused by the first refusal that there is
-  by : (r : Refusal) → r ≡ earlyRefusal both work (readAs 1 a) (readAs 2 b) → (r .number ≡ 0 → ⊥) → refusedOutput room r ≡ productAnswer both minus work room (readAs 1 a) (readAs 2 b)
+  by : (r : Refusal) → r ≡ earlyRefusal both work (readAs 1 a) (readAs 2 b) → (r .number ≡ 0 → ⊥)
+      → refusedOutput room r ≡ productAnswer both minus work room (readAs 1 a) (readAs 2 b)
   by r e h = rw e (refused-earlier room branches (earlyRefusal both work (readAs 1 a) (readAs 2 b)) _ (modesOf a) (normal rows) (λ q. h (ap (λ (x : Refusal). x .number) e ∙ q)))
 
   pub pair-refused : (p .refusal .number ≡ 0 → ⊥) → refusedOutput room (p .refusal) ≡ productAnswer both minus work room (readAs 1 a) (readAs 2 b)

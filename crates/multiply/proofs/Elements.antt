@@ -39,10 +39,12 @@ module _ (bra ket : ℕ) (both minus : Bool) where
       → element bra ket (pairRows both minus t u) ≡ pairInSuccession bra ket t u +ℤ other both minus (pairInSuccession bra ket u t)
   unfolding pairRows other sumOf
   pair-elements t u ht hu =
-      sum-append (part bra ket) (rowsTimes (t .cre) (t .ann) (u .cre) (u .ann) (t .coeff *ℤ u .coeff)) (cond both (rowsTimes (u .cre) (u .ann) (t .cre) (t .ann) (signed minus (t .coeff *ℤ u .coeff))) [])
+      sum-append (part bra ket) (rowsTimes (t .cre) (t .ann) (u .cre) (u .ann) (t .coeff *ℤ u .coeff))
+      (cond both (rowsTimes (u .cre) (u .ann) (t .cre) (t .ann) (signed minus (t .coeff *ℤ u .coeff))) [])
       ∙ ap₂ (λ (x y : ℤ). x +ℤ y) (product-acts (t .cre) (t .ann) (u .cre) (u .ann) (ht .cre) (ht .ann) (hu .cre) (hu .ann) bra ket (t .coeff *ℤ u .coeff)) (go both)
     where
-      go : (b : Bool) → element bra ket (cond b (rowsTimes (u .cre) (u .ann) (t .cre) (t .ann) (signed minus (t .coeff *ℤ u .coeff))) []) ≡ cond b (signed minus (pairInSuccession bra ket u t)) (pos 0)
+      go : (b : Bool) → element bra ket (cond b (rowsTimes (u .cre) (u .ann) (t .cre) (t .ann) (signed minus (t .coeff *ℤ u .coeff))) []) ≡ cond b
+          (signed minus (pairInSuccession bra ket u t)) (pos 0)
       go true =
           product-acts (u .cre) (u .ann) (t .cre) (t .ann) (hu .cre) (hu .ann) (ht .cre) (ht .ann) bra ket (signed minus (t .coeff *ℤ u .coeff))
           ∙ ap (λ (z : ℤ). adds bra (signed minus z) (term (u .cre) (u .ann) (term (t .cre) (t .ann) (went ket false)))) (*ℤ-comm (t .coeff) (u .coeff))

@@ -99,19 +99,22 @@ module _ (both minus : Bool) (work room : ℕ) (a b : List ℕ) (r : Written) (a
       ∙ all-elements bra ket both minus (termsOf a) (termsOf b) (wider (modesOf a) (left .most) (termsOf a) (left .inside)) (wider (modesOf a) (left .most) (termsOf b) right)
 
 -- THE PRODUCT: at every bra and ket the record left has the element that b and then a give, ladder by ladder
-pub mul-elements : (work room : ℕ) (a b : List ℕ) (r : Written) (after : List ℕ) → Gives (productOf work room (readAs 1 a) (readAs 2 b)) r after → r .refusal .number ≡ 0 → (bra ket : ℕ)
+pub mul-elements : (work room : ℕ) (a b : List ℕ) (r : Written) (after : List ℕ) → Gives (productOf work room (readAs 1 a) (readAs 2 b)) r after → r .refusal .number ≡ 0
+    → (bra ket : ℕ)
     → element bra ket (termsOf (take (r .len) after)) ≡ inSuccession bra ket (termsOf a) (termsOf b)
 unfolding other
 mul-elements work room a b r after g z bra ket = product-elements false false work room a b r after g z bra ket ∙ +ℤ-idr (inSuccession bra ket (termsOf a) (termsOf b))
 
 -- THE COMMUTATOR: minus the other order
-pub commutator-elements : (work room : ℕ) (a b : List ℕ) (r : Written) (after : List ℕ) → Gives (commutatorOf work room (readAs 1 a) (readAs 2 b)) r after → r .refusal .number ≡ 0 → (bra ket : ℕ)
+pub commutator-elements : (work room : ℕ) (a b : List ℕ) (r : Written) (after : List ℕ) → Gives (commutatorOf work room (readAs 1 a) (readAs 2 b)) r after
+    → r .refusal .number ≡ 0 → (bra ket : ℕ)
     → element bra ket (termsOf (take (r .len) after)) ≡ inSuccession bra ket (termsOf a) (termsOf b) +ℤ negℤ (inSuccession bra ket (termsOf b) (termsOf a))
 unfolding other
 commutator-elements = product-elements true true
 
 -- THE ANTICOMMUTATOR: plus the other order
-pub anticommutator-elements : (work room : ℕ) (a b : List ℕ) (r : Written) (after : List ℕ) → Gives (anticommutatorOf work room (readAs 1 a) (readAs 2 b)) r after → r .refusal .number ≡ 0 → (bra ket : ℕ)
+pub anticommutator-elements : (work room : ℕ) (a b : List ℕ) (r : Written) (after : List ℕ) → Gives (anticommutatorOf work room (readAs 1 a) (readAs 2 b)) r after
+    → r .refusal .number ≡ 0 → (bra ket : ℕ)
     → element bra ket (termsOf (take (r .len) after)) ≡ inSuccession bra ket (termsOf a) (termsOf b) +ℤ inSuccession bra ket (termsOf b) (termsOf a)
 unfolding other
 anticommutator-elements = product-elements true false

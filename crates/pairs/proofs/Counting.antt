@@ -38,7 +38,8 @@ rows-branches t u z = go (notEmpty (t .cre) (t .ann) (u .cre) (u .ann)) refl
 pair-branches : (both minus : Bool) (t u : Term) → length (pairRows both minus t u) ≡ branchesOf t u + cond both (branchesOf u t) 0
 unfolding pairRows
 pair-branches both minus t u =
-    length-append (rowsTimes (t .cre) (t .ann) (u .cre) (u .ann) (t .coeff *ℤ u .coeff)) (cond both (rowsTimes (u .cre) (u .ann) (t .cre) (t .ann) (signed minus (t .coeff *ℤ u .coeff))) [])
+    length-append (rowsTimes (t .cre) (t .ann) (u .cre) (u .ann) (t .coeff *ℤ u .coeff))
+    (cond both (rowsTimes (u .cre) (u .ann) (t .cre) (t .ann) (signed minus (t .coeff *ℤ u .coeff))) [])
     ∙ ap₂ (λ (x y : ℕ). x + y) (rows-branches t u (t .coeff *ℤ u .coeff)) (at both)
   where
     at : (b : Bool) → length (cond b (rowsTimes (u .cre) (u .ann) (t .cre) (t .ann) (signed minus (t .coeff *ℤ u .coeff))) []) ≡ cond b (branchesOf u t) 0
@@ -110,7 +111,8 @@ module _ (cre ann : ℕ) where
     pair-weighs t u =
         omega (
           arith,
-          weight-append cre ann (rowsTimes (t .cre) (t .ann) (u .cre) (u .ann) (t .coeff *ℤ u .coeff)) (cond both (rowsTimes (u .cre) (u .ann) (t .cre) (t .ann) (signed minus (t .coeff *ℤ u .coeff))) []),
+          weight-append cre ann (rowsTimes (t .cre) (t .ann) (u .cre) (u .ann) (t .coeff *ℤ u .coeff))
+              (cond both (rowsTimes (u .cre) (u .ann) (t .cre) (t .ann) (signed minus (t .coeff *ℤ u .coeff))) []),
           product-weighs (t .cre) (t .ann) (u .cre) (u .ann) (t .coeff *ℤ u .coeff),
           at both,
           abs-product (t .coeff) (u .coeff),

@@ -41,7 +41,8 @@ module _ (minus : Bool) (t u : Term) (ft : SFits w64 (t .coeff)) (fu : SFits w64
   pub one-order : {l m : List ℕ} {s r : Fill} → Adds (rowsTimes (t .cre) (t .ann) (u .cre) (u .ann) p) l s m r → Adds (pairRows false minus t u) l s m r
   unfolding pairRows
   one-order {l} {m} {s} {r} g =
-      subst (λ (ts : List Term). Adds ts l s m r) (ap (rowsTimes (t .cre) (t .ann) (u .cre) (u .ann)) is ∙ sym (append-nil (rowsTimes (t .cre) (t .ann) (u .cre) (u .ann) (t .coeff *ℤ u .coeff)))) g
+      subst (λ (ts : List Term). Adds ts l s m r)
+      (ap (rowsTimes (t .cre) (t .ann) (u .cre) (u .ann)) is ∙ sym (append-nil (rowsTimes (t .cre) (t .ann) (u .cre) (u .ann) (t .coeff *ℤ u .coeff)))) g
 
   -- q is p with the sign
   module _ (q : ℤ) (eq : q ≡ signed minus (toZ w64 (ofZ w64 p))) where
@@ -94,7 +95,9 @@ module _ (whole left : List Term) (l₀ : List ℕ) (s₀ : Fill) (l : List ℕ)
       room = step .room h;
       done = g .done ++ rows;
       all = g .all ∙ ap (λ (us : List Term). g .done ++ us) split ∙ sym (append-assoc (g .done) rows rest);
-      adds = λ ts f. subst (λ (us : List Term). Filled us m r) (append-assoc ts (g .done) rows) (not-over ((ts ++ g .done) ++ rows) m r h (step .grows (ts ++ g .done) (g .adds ts f)));
+      adds =
+          λ ts f. subst (λ (us : List Term). Filled us m r) (append-assoc ts (g .done) rows)
+          (not-over ((ts ++ g .done) ++ rows) m r h (step .grows (ts ++ g .done) (g .adds ts f)));
     }
 
     pub progress-over : length m < r .held → Adds whole l₀ s₀ m r
@@ -102,7 +105,8 @@ module _ (whole left : List Term) (l₀ : List ℕ) (s₀ : Fill) (l : List ℕ)
       room = λ k. absurd (omega arith);
       grows = λ ts f.
           filled-as
-          (append-assoc (ts ++ g .done) rows rest ∙ append-assoc ts (g .done) (rows ++ rest) ∙ ap (λ (us : List Term). ts ++ us) (ap (λ (us : List Term). g .done ++ us) (sym split) ∙ sym (g .all)))
+          (append-assoc (ts ++ g .done) rows rest ∙ append-assoc ts (g .done) (rows ++ rest) ∙ ap (λ (us : List Term). ts ++ us)
+          (ap (λ (us : List Term). g .done ++ us) (sym split) ∙ sym (g .all)))
           (over-more ((ts ++ g .done) ++ rows) rest m r h (step .grows (ts ++ g .done) (g .adds ts f)));
     }
 

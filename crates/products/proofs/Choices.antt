@@ -36,7 +36,9 @@ choices-length (suc n) p B S = go (λ S. choices-length n (suc p) B S) (B p)
 
     go : ((S : ℕ) → length (choices n (suc p) B S) ≡ 2 ^ countFrom n (suc p) B) → (b : Bool)
         → length (cond b (choices n (suc p) B S ++ choices n (suc p) B (bitXor S (2 ^ p))) (choices n (suc p) B S)) ≡ 2 ^ (cond b 1 0 + countFrom n (suc p) B)
-    go rec true = length-append (choices n (suc p) B S) (choices n (suc p) B (bitXor S (2 ^ p))) ∙ ap₂ (λ (x y : ℕ). x + y) (rec S) (rec (bitXor S (2 ^ p))) ∙ twice (2 ^ countFrom n (suc p) B) ∙ sym (pow-suc 2 (countFrom n (suc p) B)) ∙ ap (λ (x : ℕ). 2 ^ x) (sym (one-add (countFrom n (suc p) B)))
+    go rec true =
+        length-append (choices n (suc p) B S) (choices n (suc p) B (bitXor S (2 ^ p))) ∙ ap₂ (λ (x y : ℕ). x + y) (rec S) (rec (bitXor S (2 ^ p))) ∙ twice
+        (2 ^ countFrom n (suc p) B) ∙ sym (pow-suc 2 (countFrom n (suc p) B)) ∙ ap (λ (x : ℕ). 2 ^ x) (sym (one-add (countFrom n (suc p) B)))
     go rec false = rec S ∙ ap (λ (x : ℕ). 2 ^ x) (sym (zero-add (countFrom n (suc p) B)))
 
 -- from mode 0 on that is the count
@@ -51,7 +53,8 @@ unfolding count
 count-zero B = refl
 
 pub choices-number : (B : Modes) → length (choices 64 0 B 0) ≡ 2 ^ count 64 B
-choices-number B = choices-length 64 0 B 0 ∙ ap (λ (k : ℕ). 2 ^ k) (sym (zero-add (countFrom 64 0 B)) ∙ ap (λ (x : ℕ). x + countFrom 64 0 B) (sym (count-zero B)) ∙ count-from 64 0 B)
+choices-number B =
+    choices-length 64 0 B 0 ∙ ap (λ (k : ℕ). 2 ^ k) (sym (zero-add (countFrom 64 0 B)) ∙ ap (λ (x : ℕ). x + countFrom 64 0 B) (sym (count-zero B)) ∙ count-from 64 0 B)
 
 pub length-map : {A B : Type 0} (f : A → B) (l : List A) → length (map f l) ≡ length l
 length-map f [] = refl

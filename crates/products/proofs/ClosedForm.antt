@@ -64,7 +64,15 @@ step : (needs : Bool) (p at : ℕ)
     ≡ cond (ready needs p at w && (not b || m))
     (went (flips p at (cond b (bitXor w (2 ^ p)) w)) (s ⊕ (oddExchanges p (bit w) (bit at) ⊕ (b && odd p (bit w))))) gone
 step needs p at ih w s true true =
-    rw (ih (bitXor w (2 ^ p)) (s ⊕ odd p (bit w)), ready-below needs w at p, odd-exchanges-below w at p, and-true (ready needs p at w), ⊕-assoc s (odd p (bit w)) (oddExchanges p (bit w) (bit at)), ⊕-comm (odd p (bit w)) (oddExchanges p (bit w) (bit at)))
+    rw (
+      ih (bitXor w (2 ^ p)) (s ⊕ odd p (bit w)),
+      ready-below needs w at p,
+      odd-exchanges-below w at p,
+      and-true (ready needs p at w),
+      ⊕-assoc s (odd p (bit w))
+          (oddExchanges p (bit w) (bit at)),
+      ⊕-comm (odd p (bit w)) (oddExchanges p (bit w) (bit at)),
+    )
 step needs p at ih w s true false = rw (and-false (ready needs p at w)) (ladders-gone needs p at)
 step needs p at ih w s false m =
     rw (ih w s, and-true (ready needs p at w), ⊕-false (oddExchanges p (bit w) (bit at)))

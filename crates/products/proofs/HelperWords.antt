@@ -38,7 +38,8 @@ lowest-sign Lc La Rc Ra x y u v p q r s =
     ∙ ⊕-assoc _ _ _)
     (s ∙ ap₂ (λ (a c : ℕ). oddExchanges 64 (bit a) (bit c)) (sym (or-zero-r _)) (sym (or-zero-r _)))
     ∙ sym (minus-is Lc La Rc Ra 0
-    ∙ ap (λ (o : Bool). (o ⊕ joined 64 (bit Lc) (bit La) (bit Rc) (bit Ra)) ⊕ oddExchanges 64 (bit (annAt Lc La Rc Ra 0)) (bit (creAt Lc La Rc Ra 0))) (odd-none 64 (bit 0) (λ i l. bit-none i))
+    ∙ ap (λ (o : Bool). (o ⊕ joined 64 (bit Lc) (bit La) (bit Rc) (bit Ra)) ⊕ oddExchanges 64 (bit (annAt Lc La Rc Ra 0)) (bit (creAt Lc La Rc Ra 0)))
+    (odd-none 64 (bit 0) (λ i l. bit-none i))
     ∙ ap (λ (o : Bool). o ⊕ oddExchanges 64 (bit (annAt Lc La Rc Ra 0)) (bit (creAt Lc La Rc Ra 0))) (false-⊕ _))
 
 module _ (Lc La Rc Ra : ℕ) (hLc : Lc < 2 ^ 64) (hLa : La < 2 ^ 64) (hRc : Rc < 2 ^ 64) (hRa : Ra < 2 ^ 64) where

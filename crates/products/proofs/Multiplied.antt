@@ -66,7 +66,9 @@ module _ (Lc La Rc Ra : ℕ) where
       → Gives (multiplied Lc La Rc Ra (length l)) (wrote end branches) after
   unfolding multiplied put
   gives-rows l full room end branches m after ee em el eb ea = record {
-    answer = rw (full, le-ltb (length l) _ room) (ap₂ wrote (at-end ∙ sym size) (eb ∙ ap (λ (n : ℕ). n / 24) at-end ∙ mul-div-cancel-left (length (rowsTimes Lc La Rc Ra (pos 1))) (lit< tt)));
+    answer =
+        rw (full, le-ltb (length l) _ room)
+        (ap₂ wrote (at-end ∙ sym size) (eb ∙ ap (λ (n : ℕ). n / 24) at-end ∙ mul-div-cancel-left (length (rowsTimes Lc La Rc Ra (pos 1))) (lit< tt)));
     bytes = ea ∙ rw (full, le-ltb (length l) _ room) (ap₂ (λ (x y : List ℕ). x ++ y)
         (ap (take end) em ∙ take-at (rowsBytes (rowsTimes Lc La Rc Ra (pos 1))) (drop (0 + length (rowsBytes (rowsTimes Lc La Rc Ra (pos 1)))) l) end (size ∙ sym at-end))
         (ap₂ (λ (n k : ℕ). zeros (n - k)) el (at-end ∙ sym size)));
@@ -81,7 +83,9 @@ module _ (Lc La Rc Ra : ℕ) where
 -- the walk's rows are the product's, and there is room for them from `at` on
 module _ (h : ProductHelper) (w : ℕ) (small : w < 2 ^ 64) (z : ℤ) (at room : ℕ) (f : Fitting h w (room - at)) where
   number : 2 ^ count 64 (bit w) ≡ length (rowsOf h z)
-  number = ap (λ (n : ℕ). 2 ^ n) (branching-number (h .«l_cre») (h .«l_ann») (h .«r_cre») (h .«r_ann») w small (f .modes)) ∙ sym (rows-number (h .«l_cre») (h .«l_ann») (h .«r_cre») (h .«r_ann») z (f .full))
+  number =
+      ap (λ (n : ℕ). 2 ^ n) (branching-number (h .«l_cre») (h .«l_ann») (h .«r_cre») (h .«r_ann») w small (f .modes)) ∙ sym
+      (rows-number (h .«l_cre») (h .«l_ann») (h .«r_cre») (h .«r_ann») z (f .full))
 
   pub walk-fits : at + 24 * 2 ^ count 64 (bit w) ≤ room
   walk-fits = let some = pow-pos (count 64 (bit w)) in omega (arith, rw (ones-word w small) at (f .fit))

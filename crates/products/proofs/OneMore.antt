@@ -42,7 +42,8 @@ or-assoc-one w S q h =
     go false b c = refl
 
 pub more-exchanges : (a c q : ℕ) → bit a q ≡ false → bit c q ≡ false
-    → oddExchanges 64 (bit (bitOr a (2 ^ q))) (bit (bitOr c (2 ^ q))) ≡ oddExchanges 64 (bit a) (bit c) ⊕ (oddExchanges 64 (bit (2 ^ q)) (bit c) ⊕ oddExchanges 64 (bit a) (bit (2 ^ q)))
+    → oddExchanges 64 (bit (bitOr a (2 ^ q))) (bit (bitOr c (2 ^ q))) ≡ oddExchanges 64 (bit a) (bit c) ⊕
+    (oddExchanges 64 (bit (2 ^ q)) (bit c) ⊕ oddExchanges 64 (bit a) (bit (2 ^ q)))
 more-exchanges a c q ha hc =
     ap₂ (oddExchanges 64) (ap bit (or-one a q ha) ∙ bits-xor a (2 ^ q)) (ap bit (or-one c q hc) ∙ bits-xor c (2 ^ q))
     ∙ more-sign 64 (bit a) (bit c) (bit (2 ^ q)) (one-self 64 q)

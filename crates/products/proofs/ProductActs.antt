@@ -59,7 +59,8 @@ module _ (Lc La Rc Ra : ℕ) where
   then-acts k =
       ap₂ (λ (x y : Bool). x && y) (acts-is Rc Ra k) (acts-is Lc La (bitXor (bitXor k Ra) Rc))
       ∙ sym (each-and 64 _ _)
-      ∙ each-cong 64 _ _ (λ p l. ap (λ (x : Bool). fit (bit Rc p) (bit Ra p) (bit k p) && fit (bit Lc p) (bit La p) x) (bit-xor (bitXor k Ra) Rc p ∙ ap (λ (x : Bool). x ⊕ bit Rc p) (bit-xor k Ra p))
+      ∙ each-cong 64 _ _ (λ p l. ap (λ (x : Bool). fit (bit Rc p) (bit Ra p) (bit k p) && fit (bit Lc p) (bit La p) x)
+      (bit-xor (bitXor k Ra) Rc p ∙ ap (λ (x : Bool). x ⊕ bit Rc p) (bit-xor k Ra p))
       ∙ then-digit (bit Lc p) (bit La p) (bit Rc p) (bit Ra p) (bit k p))
       ∙ each-and 64 _ _
       ∙ ap (λ (x : Bool). full && x) (each-and 64 _ _)
@@ -161,7 +162,8 @@ module _ (Lc La Rc Ra : ℕ) where
           (then-acts k ∙ ap (λ (b : Bool). b && (base k && each 64 (λ p. not (branches p && bit k p)))) (each-all 64 _ (λ p l. good p)))
           ∙ plumb (base k) (each 64 (λ p. not (branches p && bit k p)))
         where
-          plumb : (F E : Bool) → adds bra z (cond (F && E) (went (last k) (shared k)) gone) ≡ cond E (cond F (cond (eqb (last k) bra) (signed (shared k) z) (pos 0)) (pos 0)) (pos 0)
+          plumb : (F E : Bool) → adds bra z (cond (F && E) (went (last k) (shared k)) gone) ≡ cond E
+              (cond F (cond (eqb (last k) bra) (signed (shared k) z) (pos 0)) (pos 0)) (pos 0)
           plumb true true = refl
           plumb true false = refl
           plumb false true = refl
@@ -172,7 +174,8 @@ module _ (Lc La Rc Ra : ℕ) where
           sum-cong 64 0 branches 0 _ _ refl none (λ q S h. one-row bra k z q S h)
           ∙ alternate (bit k) (worth bra k z) 64 0 branches 0 refl none
           ∙ ap₂ (λ (b : Bool) (z : ℤ). cond b z (pos 0)) (from-all 64 _)
-          (ap₂ (λ (b o : Bool). cond b (signed o (worth bra k z)) (pos 0)) (each-all 64 _ (λ i l. ap (λ (x : Bool). not x || bit k i) (bit-none i))) (odd-none 64 (bit 0) (λ i l. bit-none i)))
+          (ap₂ (λ (b o : Bool). cond b (signed o (worth bra k z)) (pos 0)) (each-all 64 _ (λ i l. ap (λ (x : Bool). not x || bit k i) (bit-none i)))
+          (odd-none 64 (bit 0) (λ i l. bit-none i)))
           ∙ sym (both bra k z)
         where
           none : Part 0 branches 0

@@ -108,7 +108,8 @@ module _ (Lc La Rc Ra : ℕ) where
 
     module _ (room : ℕ) (r : Written) (after : List ℕ) (gives : Gives (multiplied Lc La Rc Ra room) r after) (accepted : r .refusal .number ≡ 0) where
       -- a call that is not refused leaves the rows, and reports how many they are
-      filled : (r .branches ≡ length (rowsTimes Lc La Rc Ra (pos 1))) × (after ≡ rowsBytes (rowsTimes Lc La Rc Ra (pos 1)) ++ zeros (room - length (rowsBytes (rowsTimes Lc La Rc Ra (pos 1)))))
+      filled : (r .branches ≡ length (rowsTimes Lc La Rc Ra (pos 1))) ×
+          (after ≡ rowsBytes (rowsTimes Lc La Rc Ra (pos 1)) ++ zeros (room - length (rowsBytes (rowsTimes Lc La Rc Ra (pos 1)))))
       unfolding multiplied
       filled = go (noRoom Lc La Rc Ra room) (gives .answer) (gives .bytes)
         where
@@ -116,7 +117,8 @@ module _ (Lc La Rc Ra : ℕ) where
           o b = cond b (refusedOutput room (refusal 7 0 0)) (filledOutput room (length (rowsTimes Lc La Rc Ra (pos 1))) (rowsBytes (rowsTimes Lc La Rc Ra (pos 1))))
 
           go : (b : Bool) → r ≡ o b .answer → after ≡ o b .bytes
-              → (r .branches ≡ length (rowsTimes Lc La Rc Ra (pos 1))) × (after ≡ rowsBytes (rowsTimes Lc La Rc Ra (pos 1)) ++ zeros (room - length (rowsBytes (rowsTimes Lc La Rc Ra (pos 1)))))
+              → (r .branches ≡ length (rowsTimes Lc La Rc Ra (pos 1))) ×
+              (after ≡ rowsBytes (rowsTimes Lc La Rc Ra (pos 1)) ++ zeros (room - length (rowsBytes (rowsTimes Lc La Rc Ra (pos 1)))))
           go true e f = let z : _≡_ {A = ℕ} 7 0 = sym (ap (λ (w : Written). w .refusal .number) e) ∙ accepted in absurd (omega arith)
           go false e f = (ap (λ (w : Written). w .branches) e, f)
 
@@ -149,6 +151,7 @@ module _ (Lc La Rc Ra : ℕ) where
   unfolding multiplied
   refused-where room r after g = ap (λ (w : Written). w .refusal .number) (g .answer) ∙ go (noRoom Lc La Rc Ra room)
     where
-      go : (b : Bool) → (cond b (refusedOutput room (refusal 7 0 0)) (filledOutput room (length (rowsTimes Lc La Rc Ra (pos 1))) (rowsBytes (rowsTimes Lc La Rc Ra (pos 1))))) .answer .refusal .number ≡ cond b 7 0
+      go : (b : Bool) → (cond b (refusedOutput room (refusal 7 0 0))
+          (filledOutput room (length (rowsTimes Lc La Rc Ra (pos 1))) (rowsBytes (rowsTimes Lc La Rc Ra (pos 1))))) .answer .refusal .number ≡ cond b 7 0
       go true = refl
       go false = refl

@@ -33,21 +33,25 @@ pub then-digit : (lc la rc ra k : Bool) → fit rc ra k && fit lc la ((k ⊕ ra)
     ≡ fine lc la rc ra && (fit (creD lc la rc) (annD la rc ra) k && not (branch lc la rc ra && k))
 unfolding _⊕_
 then-digit lc la rc ra k =
-    of-same _ _ (at5 (λ lc la rc ra k. same (fit rc ra k && fit lc la ((k ⊕ ra) ⊕ rc)) (fine lc la rc ra && (fit (creD lc la rc) (annD la rc ra) k && not (branch lc la rc ra && k)))) refl lc la rc ra k)
+    of-same _ _ (at5 (λ lc la rc ra k. same (fit rc ra k && fit lc la ((k ⊕ ra) ⊕ rc))
+    (fine lc la rc ra && (fit (creD lc la rc) (annD la rc ra) k && not (branch lc la rc ra && k)))) refl lc la rc ra k)
 
 -- a row that keeps the mode s is ready where the lowest row is, and s is occupied
 pub row-digit : (lc la rc ra k s : Bool) → not s || branch lc la rc ra ≡ true
     → fit (creD lc la rc || s) (annD la rc ra || s) k ≡ fit (creD lc la rc) (annD la rc ra) k && (not s || k)
 unfolding _⊕_
 row-digit lc la rc ra k s h =
-    of-same _ _ (mp _ _ (at6 (λ lc la rc ra k s. imp (not s || branch lc la rc ra) (same (fit (creD lc la rc || s) (annD la rc ra || s) k) (fit (creD lc la rc) (annD la rc ra) k && (not s || k)))) refl lc la rc ra k s) h)
+    of-same _ _ (mp _ _ (at6 (λ lc la rc ra k s. imp (not s || branch lc la rc ra)
+    (same (fit (creD lc la rc || s) (annD la rc ra || s) k) (fit (creD lc la rc) (annD la rc ra) k && (not s || k)))) refl lc la rc ra k s) h)
 
 -- every row flips the modes that R and then L flip
 pub flip-digit : (lc la rc ra s : Bool) → not s || branch lc la rc ra ≡ true → fine lc la rc ra ≡ true
     → (annD la rc ra || s) ⊕ (creD lc la rc || s) ≡ ((ra ⊕ rc) ⊕ la) ⊕ lc
 unfolding _⊕_
 flip-digit lc la rc ra s h f =
-    of-same _ _ (mp _ _ (mp _ _ (at5 (λ lc la rc ra s. imp (not s || branch lc la rc ra) (imp (fine lc la rc ra) (same ((annD la rc ra || s) ⊕ (creD lc la rc || s)) (((ra ⊕ rc) ⊕ la) ⊕ lc)))) refl lc la rc ra s) h) f)
+    of-same _ _ (mp _ _ (mp _ _
+    (at5 (λ lc la rc ra s. imp (not s || branch lc la rc ra) (imp (fine lc la rc ra) (same ((annD la rc ra || s) ⊕ (creD lc la rc || s)) (((ra ⊕ rc) ⊕ la) ⊕ lc)))) refl lc
+    la rc ra s) h) f)
 
 -- ---- one row
 
@@ -73,7 +77,8 @@ module _ (Lc La Rc Ra : ℕ) where
   minus-is S =
       ap₂ (λ (x y : Bool). (odd 64 (bit S) ⊕ x) ⊕ y)
       (ap₂ (λ (x y : Bool). x ⊕ y) (empty-sign Rc Ra)
-      (ap₂ (λ (u v : Modes). oddExchanges 64 u (bit La) ⊕ oddExchanges 64 v (bit Lc)) (bits-xor Ra Rc) (bits-xor (bitXor Ra Rc) La ∙ ap (λ (u : Modes). u △ bit La) (bits-xor Ra Rc))))
+      (ap₂ (λ (u v : Modes). oddExchanges 64 u (bit La) ⊕ oddExchanges 64 v (bit Lc)) (bits-xor Ra Rc)
+      (bits-xor (bitXor Ra Rc) La ∙ ap (λ (u : Modes). u △ bit La) (bits-xor Ra Rc))))
       (empty-sign (cre S) (ann S))
 
   pub bit-cre : (S p : ℕ) → bit (cre S) p ≡ creD (bit Lc p) (bit La p) (bit Rc p) || bit S p

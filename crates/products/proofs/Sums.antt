@@ -61,7 +61,13 @@ pub part-later : {p : ℕ} {B : Modes} {S : ℕ} → Part p B S → Part (suc p)
 part-later h = record { inside = h .inside; above = λ i l. h .above i (omega arith); small = h .small }
 
 pub part-more : {p : ℕ} {B : Modes} {S : ℕ} → Part p B S → p < 64 → B p ≡ true → Part (suc p) B (bitXor S (2 ^ p))
-part-more {p} {B} {S} h l e = record { inside = λ i. inn i (eqb i p) refl; above = λ i l. added S p i ∙ ap₂ (λ (x y : Bool). x ⊕ y) (h .above i (omega arith)) (ne-eqb i p (λ e. omega arith)) ∙ ⊕-false false; small = xor-lt 64 S (2 ^ p) (h .small) (pow-lt l) }
+part-more {p} {B} {S} h l e =
+    record {
+      inside = λ i. inn i (eqb i p) refl;
+      above = λ i l. added S p i ∙ ap₂ (λ (x y : Bool). x ⊕ y) (h .above i (omega arith)) (ne-eqb i p (λ e. omega arith))
+          ∙ ⊕-false false;
+      small = xor-lt 64 S (2 ^ p) (h .small) (pow-lt l);
+    }
   where
     inn : (i : ℕ) (b : Bool) → eqb i p ≡ b → not (bit (bitXor S (2 ^ p)) i) || B i ≡ true
     inn i true q = rw (ap B (eqb-true i p q) ∙ e) (or-true (not (bit (bitXor S (2 ^ p)) i)))

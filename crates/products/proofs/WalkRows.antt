@@ -40,7 +40,8 @@ module _ (Lc La Rc Ra : ℕ) where
       → rowTimes Lc La Rc Ra z (bitXor S (2 ^ q)) ≡ keeping (2 ^ q) (rowTimes Lc La Rc Ra z S)
   row-more z S q l hS hc ha =
       term-of (or-assoc-one (bitOr Ra (bitXor La (bitAnd La Rc))) S q hS) (or-assoc-one (bitOr Lc (bitXor Rc (bitAnd La Rc))) S q hS)
-      (ap (λ (b : Bool). signed b z) sign ∙ sym (signed-signed (true ⊕ (oddExchanges 64 (bit (2 ^ q)) (bit (cre S)) ⊕ oddExchanges 64 (bit (ann S)) (bit (2 ^ q)))) (minusAt Lc La Rc Ra S) z))
+      (ap (λ (b : Bool). signed b z) sign ∙ sym
+      (signed-signed (true ⊕ (oddExchanges 64 (bit (2 ^ q)) (bit (cre S)) ⊕ oddExchanges 64 (bit (ann S)) (bit (2 ^ q)))) (minusAt Lc La Rc Ra S) z))
     where
       regroup : (o t j c d : Bool) → ((o ⊕ t) ⊕ j) ⊕ (c ⊕ d) ≡ (t ⊕ d) ⊕ ((o ⊕ j) ⊕ c)
       regroup o t j c d = simp parity-sum
@@ -53,7 +54,8 @@ module _ (Lc La Rc Ra : ℕ) where
       sign =
           minus-is Lc La Rc Ra (bitXor S (2 ^ q))
           ∙ ap₂ (λ (x y : Bool). (x ⊕ joined 64 (bit Lc) (bit La) (bit Rc) (bit Ra)) ⊕ y) kept
-          (ap₂ (λ (x y : ℕ). oddExchanges 64 (bit x) (bit y)) (or-assoc-one (bitOr Ra (bitXor La (bitAnd La Rc))) S q hS) (or-assoc-one (bitOr Lc (bitXor Rc (bitAnd La Rc))) S q hS)
+          (ap₂ (λ (x y : ℕ). oddExchanges 64 (bit x) (bit y)) (or-assoc-one (bitOr Ra (bitXor La (bitAnd La Rc))) S q hS)
+          (or-assoc-one (bitOr Lc (bitXor Rc (bitAnd La Rc))) S q hS)
           ∙ more-exchanges (ann S) (cre S) q ha hc)
           ∙ regroup (odd 64 (bit S)) true (joined 64 (bit Lc) (bit La) (bit Rc) (bit Ra)) _ _
           ∙ ap (λ (x : Bool). (true ⊕ (oddExchanges 64 (bit (2 ^ q)) (bit (cre S)) ⊕ oddExchanges 64 (bit (ann S)) (bit (2 ^ q)))) ⊕ x) (sym (minus-is Lc La Rc Ra S))
@@ -125,7 +127,8 @@ module _ (Lc La Rc Ra : ℕ) where
       go (inr h) = absurd (omega (arith, fewer-left left h b))
   walk-is z (suc n) left S k b f = go (λ left S k b f. walk-is z n left S k b f) (zero-or-pos left)
     where
-      go : ((left S : ℕ) → count 64 (bit left) ≡ n → left < 2 ^ 64 → Free left S → walk n left (rowTimes Lc La Rc Ra z S) ≡ map (rowTimes Lc La Rc Ra z) (choices 64 0 (bit left) S))
+      go : ((left S : ℕ) → count 64 (bit left) ≡ n → left < 2 ^ 64 → Free left S → walk n left (rowTimes Lc La Rc Ra z S) ≡ map (rowTimes Lc La Rc Ra z)
+          (choices 64 0 (bit left) S))
           → (left ≡ 0) ⊎ (0 < left)
           → walk n (bitAnd left (left - 1)) (rowTimes Lc La Rc Ra z S) ++ walk n (bitAnd left (left - 1)) (keeping (left - bitAnd left (left - 1)) (rowTimes Lc La Rc Ra z S))
           ≡ map (rowTimes Lc La Rc Ra z) (choices 64 0 (bit left) S)
@@ -164,8 +167,12 @@ module _ (Lc La Rc Ra : ℕ) where
   module _ (w : ℕ) (b : w < 2 ^ 64) (is : (p : ℕ) → bit w p ≡ branching Lc La Rc Ra p) where
     free-start : Free w 0
     free-start = record {
-      creF = λ i e. bit-cre Lc La Rc Ra 0 i ∙ ap (λ (x : Bool). creD (bit Lc i) (bit La i) (bit Rc i) || x) (bit-none i) ∙ cre-digit (bit Lc i) (bit La i) (bit Rc i) (bit Ra i) (sym (is i) ∙ e);
-      annF = λ i e. bit-ann Lc La Rc Ra 0 i ∙ ap (λ (x : Bool). annD (bit La i) (bit Rc i) (bit Ra i) || x) (bit-none i) ∙ ann-digit (bit Lc i) (bit La i) (bit Rc i) (bit Ra i) (sym (is i) ∙ e);
+      creF =
+          λ i e. bit-cre Lc La Rc Ra 0 i ∙ ap (λ (x : Bool). creD (bit Lc i) (bit La i) (bit Rc i) || x) (bit-none i) ∙ cre-digit (bit Lc i) (bit La i) (bit Rc i)
+          (bit Ra i) (sym (is i) ∙ e);
+      annF =
+          λ i e. bit-ann Lc La Rc Ra 0 i ∙ ap (λ (x : Bool). annD (bit La i) (bit Rc i) (bit Ra i) || x) (bit-none i) ∙ ann-digit (bit Lc i) (bit La i) (bit Rc i)
+          (bit Ra i) (sym (is i) ∙ e);
       keptF = λ i e. bit-none i;
     }
 

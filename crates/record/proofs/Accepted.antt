@@ -93,7 +93,8 @@ pub none-refused : (o m i : ℕ) (up : Term → Bool) (ts : List Term) → Begin
 unfolding termsRefusal
 none-refused o m i up [] b none empty none = refl
 none-refused o m i up (t ∷ ts) b (more h hs) (above a s) (more n ns) =
-    rw (right-none o m i (up t) t (record { inside = h; above = b; nonzero = n })) (or-second unrefused _ refl ∙ none-refused o m (suc i) (before t) ts (above-first t ts a) hs s ns)
+    rw (right-none o m i (up t) t (record { inside = h; above = b; nonzero = n }))
+    (or-second unrefused _ refl ∙ none-refused o m (suc i) (before t) ts (above-first t ts a) hs s ns)
 
 -- ---- the record
 

@@ -91,7 +91,8 @@ module _ (m : ℕ) (ts : List Term) (modes : m < 2 ^ 32) (few : length ts ≤ 20
         ∙ rw (
           column-read h (c ++ z) (λ t. t .ann) 32 (length-header m n) (every-implies ts (λ t f. f .ann) fit),
           ap (λ (l : List ℕ). numbers 8 l (32 + 8 * n) n) second ∙ column-read (h ++ a) z (λ t. t .cre) (32 + 8 * n) second-at (every-implies ts (λ t f. f .cre) fit),
-          ap (λ (l : List ℕ). numbers 8 l (32 + 16 * n) n) third ∙ column-read (h ++ (a ++ c)) [] bitsOf (32 + 16 * n) third-at (every-implies ts (λ t f. fits-ofZ (f .coeff) .fits) fit),
+          ap (λ (l : List ℕ). numbers 8 l (32 + 16 * n) n) third ∙ column-read (h ++ (a ++ c)) [] bitsOf (32 + 16 * n) third-at
+              (every-implies ts (λ t f. fits-ofZ (f .coeff) .fits) fit),
         )
         (rejoined ts fit)
       where

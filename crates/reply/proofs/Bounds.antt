@@ -73,13 +73,15 @@ module _ {room : ℕ} where
     unfolding termRefusal
     lawful-term m i up t hi =
         lawful-or (need (inside m (t .cre) (t .ann)) (refusal 2 o i)) _ (lawful-need (inside m (t .cre) (t .ann)) (refusal 2 o i) (plain 2 o i (omega arith) ho hi))
-        (lawful-or (need up (refusal 3 o i)) _ (lawful-need up (refusal 3 o i) (plain 3 o i (omega arith) ho hi)) (lawful-need (not (eqb (natAbs (t .coeff)) 0)) (refusal 4 o i) (plain 4 o i (omega arith) ho hi)))
+        (lawful-or (need up (refusal 3 o i)) _ (lawful-need up (refusal 3 o i) (plain 3 o i (omega arith) ho hi))
+        (lawful-need (not (eqb (natAbs (t .coeff)) 0)) (refusal 4 o i) (plain 4 o i (omega arith) ho hi)))
 
     lawful-terms : (m i : ℕ) (up : Term → Bool) (ts : List Term) → i + length ts ≤ 2048 → Lawful room (termsRefusal o m i up ts)
     unfolding termsRefusal
     lawful-terms m i up [] h = fine
     lawful-terms m i up (t ∷ ts) h =
-        lawful-or (termRefusal o m i (up t) t) (termsRefusal o m (suc i) (before t) ts) (lawful-term m i (up t) t (omega arith)) (lawful-terms m (suc i) (before t) ts (omega arith))
+        lawful-or (termRefusal o m i (up t) t) (termsRefusal o m (suc i) (before t) ts) (lawful-term m i (up t) t (omega arith))
+        (lawful-terms m (suc i) (before t) ts (omega arith))
 
     lawful-record : (l : List ℕ) → Lawful room (refusalOf o l)
     unfolding refusalOf
@@ -105,7 +107,8 @@ module _ {room : ℕ} where
   lawful-pair : (a b : List ℕ) → Lawful room (operandsRefusal (readAs 1 a) (readAs 2 b))
   lawful-pair a b =
       lawful-or (refusalOf 1 a) _ (lawful-record 1 (omega arith) a)
-      (lawful-or (refusalOf 2 b) _ (lawful-record 2 (omega arith) b) (lawful-need (eqb (modesOf a) (modesOf b)) modesDiffer (plain 6 0 0 (omega arith) (omega arith) (omega arith))))
+      (lawful-or (refusalOf 2 b) _ (lawful-record 2 (omega arith) b)
+      (lawful-need (eqb (modesOf a) (modesOf b)) modesDiffer (plain 6 0 0 (omega arith) (omega arith) (omega arith))))
 
   lawful-weight : (v w : ℕ) → Lawful room (weightRefusal v w)
   unfolding weightRefusal
@@ -121,7 +124,8 @@ module _ {room : ℕ} where
   lawful-commutator : (work : ℕ) (a b : List ℕ) → Lawful room ((commutatorOf work room (readAs 1 a) (readAs 2 b)) .answer .refusal)
   lawful-commutator work a b =
       lawful-output _ _ refl
-      (lawful-or _ _ (lawful-or (operandsRefusal (readAs 1 a) (readAs 2 b)) _ (lawful-pair a b) (lawful-or (weightRefusal (weight (termsOf a)) (weight (termsOf b))) _ (lawful-weight _ _) (lawful-work work _)))
+      (lawful-or _ _ (lawful-or (operandsRefusal (readAs 1 a) (readAs 2 b)) _ (lawful-pair a b)
+      (lawful-or (weightRefusal (weight (termsOf a)) (weight (termsOf b))) _ (lawful-weight _ _) (lawful-work work _)))
       (lawful-result _ _))
 
 pub lawful-answer : (work room : ℕ) (input : List ℕ) → Lawful room ((answerTo work room input) .answer .refusal)

@@ -49,7 +49,8 @@ module _ (out : List ℕ) (r : Refusal) (line line' : List ℕ) (n : ℕ) (g : S
 pub line-one : (r s : Refusal) → refusedLine r ≡ refusedLine s → r ≡ s
 unfolding refusedLine
 line-one r s e =
-    let number = field-apart (r .number) (s .number) 32 (field (r .operand) 32 ++ field (r .place) 10) (field (s .operand) 32 ++ field (s .place) 10) (omega arith) (ap (drop 8) e) in
+    let number =
+    field-apart (r .number) (s .number) 32 (field (r .operand) 32 ++ field (r .place) 10) (field (s .operand) 32 ++ field (s .place) 10) (omega arith) (ap (drop 8) e) in
     let operand = field-apart (r .operand) (s .operand) 32 (field (r .place) 10) (field (s .place) 10) (omega arith) (number .1) in
     let place = field-apart (r .place) (s .place) 10 [] [] (omega arith) (ap (λ (l : List ℕ). l ++ []) (operand .1)) in
     λ i. record { number = number .0 i; operand = operand .0 i; place = place .0 i }

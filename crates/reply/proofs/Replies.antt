@@ -61,7 +61,8 @@ pub data Shape (room : ℕ) : Output → Type 0 where
   filling : (branches : ℕ) (bs : List ℕ) → Shape room (filledOutput room branches bs)
 
 commutator-shape : (work room : ℕ) (a b : Operand) → Shape room (commutatorOf work room a b)
-commutator-shape work room a b = either-way _ (refusedOutput room) _ (Shape room) (λ z. filling _ (encode (a .modes) (normal (allRows true true (a .terms) (b .terms))))) (λ h. refusing _)
+commutator-shape work room a b =
+    either-way _ (refusedOutput room) _ (Shape room) (λ z. filling _ (encode (a .modes) (normal (allRows true true (a .terms) (b .terms))))) (λ h. refusing _)
 
 pub answer-shape : (work room : ℕ) (input : List ℕ) → Shape room (answerTo work room input)
 unfolding answerTo

@@ -52,21 +52,25 @@ too-long o l h = not-laid o l (λ k. absurd (omega (arith, k .size, k .few)))
 pub line-no-record : (o : ℕ) (f : Refusal) → refusalOf o (refusedLine f) ≡ refusal 1 o 0
 unfolding refusedLine numbers numAt num
 line-no-record o f =
-    not-laid o (refusedLine f) (λ k. let e : _≡_ {A = ℕ} (114 + 256 * (101 + 256 * (102 + 256 * (117 + 256 * 0)))) 1 = ap (λ (xs : List ℕ). getD xs 0 0) (k .header) in absurd (omega arith))
+    not-laid o (refusedLine f)
+    (λ k. let e : _≡_ {A = ℕ} (114 + 256 * (101 + 256 * (102 + 256 * (117 + 256 * 0)))) 1 = ap (λ (xs : List ℕ). getD xs 0 0) (k .header) in absurd (omega arith))
 
 -- ---- which record is refused first
 
 module _ (work room : ℕ) where
-  commutator-refused : (a b : List ℕ) (f : Refusal) → operandsRefusal (readAs 1 a) (readAs 2 b) ≡ f → (f .number ≡ 0 → ⊥) → commutatorOf work room (readAs 1 a) (readAs 2 b) ≡ refusedOutput room f
+  commutator-refused : (a b : List ℕ) (f : Refusal) → operandsRefusal (readAs 1 a) (readAs 2 b) ≡ f → (f .number ≡ 0 → ⊥)
+      → commutatorOf work room (readAs 1 a) (readAs 2 b) ≡ refusedOutput room f
   commutator-refused a b f e h =
       let early : earlyRefusal true work (readAs 1 a) (readAs 2 b) ≡ f = rw e (or-first f _ h) in
-      sym (refused-earlier room _ (earlyRefusal true work (readAs 1 a) (readAs 2 b)) _ (modesOf a) (normal (allRows true true (termsOf a) (termsOf b))) (λ z. h (ap (λ (r : Refusal). r .number) (sym early) ∙ z))) ∙ ap (refusedOutput room) early
+      sym (refused-earlier room _ (earlyRefusal true work (readAs 1 a) (readAs 2 b)) _ (modesOf a) (normal (allRows true true (termsOf a) (termsOf b)))
+      (λ z. h (ap (λ (r : Refusal). r .number) (sym early) ∙ z))) ∙ ap (refusedOutput room) early
 
   module _ (input : List ℕ) where
     -- what is there of a first record that is not there whole is refused with 1
     short-first : holdsFirst input ≡ false → refusalOf 1 (firstOf input) ≡ refusal 1 1 0
     unfolding numbers
-    short-first h = not-laid 1 (firstOf input) (λ k. ⊎-elim (λ less. absurd (omega (arith, k .size, length-take (totalOf input) input))) (λ there. beyond k there) (lt-or-ge (length input) 32))
+    short-first h =
+        not-laid 1 (firstOf input) (λ k. ⊎-elim (λ less. absurd (omega (arith, k .size, length-take (totalOf input) input))) (λ there. beyond k there) (lt-or-ge (length input) 32))
       where
         beyond : Laid (firstOf input) → 32 ≤ length input → ⊥
         beyond k there =
@@ -82,7 +86,8 @@ module _ (work room : ℕ) where
     first-refused n = go (holdsFirst input) refl
       where
         go : (s : Bool) → holdsFirst input ≡ s
-            → cond s (commutatorOf work room (readAs 1 (firstOf input)) (readAs 2 (secondOf input))) (refusedOutput room (refusal 1 1 0)) ≡ refusedOutput room (refusalOf 1 (firstOf input))
+            → cond s (commutatorOf work room (readAs 1 (firstOf input)) (readAs 2 (secondOf input))) (refusedOutput room (refusal 1 1 0)) ≡ refusedOutput room
+            (refusalOf 1 (firstOf input))
         go true e = commutator-refused (firstOf input) (secondOf input) (refusalOf 1 (firstOf input)) (or-first _ _ n) n
         go false e = ap (refusedOutput room) (sym (short-first e))
 
@@ -93,7 +98,8 @@ module _ (work room : ℕ) where
     second-refused z n = go (holdsFirst input) refl
       where
         go : (s : Bool) → holdsFirst input ≡ s
-            → cond s (commutatorOf work room (readAs 1 (firstOf input)) (readAs 2 (secondOf input))) (refusedOutput room (refusal 1 1 0)) ≡ refusedOutput room (refusalOf 2 (secondOf input))
+            → cond s (commutatorOf work room (readAs 1 (firstOf input)) (readAs 2 (secondOf input))) (refusedOutput room (refusal 1 1 0)) ≡ refusedOutput room
+            (refusalOf 2 (secondOf input))
         go true e =
             commutator-refused (firstOf input) (secondOf input) (refusalOf 2 (secondOf input)) (or-second _ _ z ∙ or-first _ _ n) n
         go false e = let one : _≡_ {A = ℕ} 1 0 = ap (λ (r : Refusal). r .number) (sym (short-first e)) ∙ z in absurd (omega arith)
@@ -158,7 +164,8 @@ module _ (work room : ℕ) (input : List ℕ) where
     not-short = go (holdsFirst input) z
       where
         go : (s : Bool) → (cond s (commutatorOf work room (readAs 1 (firstOf input)) (readAs 2 (secondOf input))) (refusedOutput room (refusal 1 1 0))) .answer .refusal .number ≡ 0
-            → cond s (commutatorOf work room (readAs 1 (firstOf input)) (readAs 2 (secondOf input))) (refusedOutput room (refusal 1 1 0)) ≡ commutatorOf work room (readAs 1 (firstOf input)) (readAs 2 (secondOf input))
+            → cond s (commutatorOf work room (readAs 1 (firstOf input)) (readAs 2 (secondOf input))) (refusedOutput room (refusal 1 1 0)) ≡ commutatorOf work room
+            (readAs 1 (firstOf input)) (readAs 2 (secondOf input))
         go true y = refl
         go false y = absurd (omega arith)
 
@@ -179,7 +186,9 @@ module _ (work room : ℕ) (input : List ℕ) where
     where
       go : (s : Bool) → eqb (answer .answer .refusal .number) 0 ≡ s → Reported input (cond s (take (answer .answer .len) (answer .bytes)) (lineIn room (answer .answer .refusal)))
       go true e = result (is-commutator (eqb-true _ _ e))
-      go false e = line (answer .answer .refusal) (eqb-false _ _ e) (line-fits room (answer .answer .refusal) (omega (arith, lawful-line (answer .answer .refusal) (lawful-answer work room input))))
+      go false e =
+          line (answer .answer .refusal) (eqb-false _ _ e)
+          (line-fits room (answer .answer .refusal) (omega (arith, lawful-line (answer .answer .refusal) (lawful-answer work room input))))
 
   -- THE REPLY: of the bytes to be written, as they stand in the output
   pub reply-told : 18 ≤ room → (r : ℕ) (after : List ℕ) → Says (replyTo work room input) room r after → Reported input (take r after)

@@ -32,7 +32,8 @@ weighing-starts l n = let e : n - 0 ≡ n = omega arith in rw e (weighs-start (w
 pub weighing-goes : (l : List ℕ) (n w i k v : ℕ) (t : Term) → Weighing l n w i → i < n → t ≡ rowAt l (24 * i) → k ≡ natAbs (t .coeff) → v ≡ heavierBy k w → Weighing l n v (i + 1)
 weighing-goes l n w i k v t g h et ek ev =
     let front : weight (rowsAt l (24 * i) (n - i)) ≡ k + weight (rowsAt l (24 * (i + 1)) (n - (i + 1))) =
-    weight-front _ _ (rowAt l (24 * i)) (rows-next l i n h) ∙ ap (λ (x : ℕ). x + weight (rowsAt l (24 * (i + 1)) (n - (i + 1)))) (sym (ek ∙ ap (λ (x : Term). natAbs (x .coeff)) et)) in
+    weight-front _ _ (rowAt l (24 * i)) (rows-next l i n h) ∙ ap (λ (x : ℕ). x + weight (rowsAt l (24 * (i + 1)) (n - (i + 1))))
+    (sym (ek ∙ ap (λ (x : Term). natAbs (x .coeff)) et)) in
     rw ev (weighs-more w k _ _ (rw front at g))
 
 pub weighing-ends : (l : List ℕ) (n w i : ℕ) → Weighing l n w i → n ≤ i → Tallied (rowsAt l 0 n) (record { terms = n; weight = w })

@@ -58,12 +58,14 @@ module _ (a b : List ℕ) (p : Checked) (ep : p ≡ checkedOf 1 a) where
 
       pub other-modes : (p .modes ≡ q .modes → ⊥) → shut modesDiffer ≡ openedOf a b
       other-modes h =
-          second-decides _ (rw (ne-eqb (modesOf a) (modesOf b) (λ e. h (modes-a ∙ e ∙ sym modes-b))) (second-refuses (refusalOf 2 b) modesDiffer shut _ (right .number) (λ e. absurd (omega arith))))
+          second-decides _ (rw (ne-eqb (modesOf a) (modesOf b) (λ e. h (modes-a ∙ e ∙ sym modes-b)))
+          (second-refuses (refusalOf 2 b) modesDiffer shut _ (right .number) (λ e. absurd (omega arith))))
 
       pub both-open : p .modes ≡ q .modes
           → _≡_ {A = Opened} (record { refusal = none; modes = p .modes; left = p .terms; right = q .terms; «left_weight» = p .weight; «right_weight» = q .weight }) (openedOf a b)
       both-open h =
-          second-decides _ (rw (eq-eqb (modesOf a) (modesOf b) (sym modes-a ∙ h ∙ modes-b), left .is, right .is) (neither-refuses (refusalOf 2 b) none shut (standing a b) (right .number) refl))
+          second-decides _ (rw (eq-eqb (modesOf a) (modesOf b) (sym modes-a ∙ h ∙ modes-b), left .is, right .is)
+          (neither-refuses (refusalOf 2 b) none shut (standing a b) (right .number) refl))
 
 -- ---- two records that are open
 

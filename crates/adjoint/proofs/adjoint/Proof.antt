@@ -20,9 +20,13 @@ same-length c = search needs
 
 returns : tie.Need-returns
 returns c =
-    let s = c .before .before .before .before .before .before .before .before .before .before in
-    let refuse = c .before .before .refuse in
-    subst (λ (o : Output). Gives o (refuse .result) (refuse .last .0)) (adjointed-refused (length (s .args .out .now)) (s .args .a .now) _ (c .before .before .before .before .before .before .before .check .ensures) (c .before .before .before .before .before .if1 .taken)) (refuse .ensures)
+    let at-refuse = c .before .before in
+    let at-if1 = at-refuse .before .before .before in
+    let at-check = at-if1 .before .before in
+    let s = at-check .before .before .before in
+    let refuse = at-refuse .refuse in
+    subst (λ (o : Output). Gives o (refuse .result) (refuse .last .0))
+    (adjointed-refused (length (s .args .out .now)) (s .args .a .now) _ (at-check .check .ensures) (at-if1 .if1 .taken)) (refuse .ensures)
 
 length-of-requires : tie.Need-length-of-requires
 length-of-requires c κs = omega (arith, few 0 _ _ (accepted 1 _ _ (c .before .before .check .ensures) (c .if1 .left)))
@@ -41,7 +45,8 @@ returns-2 c =
     let s = at-check .before .before .before in
     let refuse = c .before .before .refuse2 in
     let k = accepted 1 (s .args .a .now) _ (at-check .check .ensures) (at-if1 .if1 .left) in
-    subst (λ (o : Output). Gives o (refuse .result) (refuse .last .0)) (adjointed-short (length (s .args .out .now)) (s .args .a .now) _ k (omega (arith, at-if2 .before .length-of .ensures))) (refuse .ensures)
+    subst (λ (o : Output). Gives o (refuse .result) (refuse .last .0))
+    (adjointed-short (length (s .args .out .now)) (s .args .a .now) _ k (omega (arith, at-if2 .before .length-of .ensures))) (refuse .ensures)
 
 write-adjoint-requires : tie.Need-write-adjoint-requires
 write-adjoint-requires c κs =
@@ -61,7 +66,8 @@ returns-3 c =
     let s = at-check .before .before .before in
     let written = c .before .before .write-adjoint in
     let k = accepted 1 (s .args .a .now) _ (at-check .check .ensures) (at-length .before .if1 .left) in
-    subst (λ (o : Output). Gives o (written .result) (written .last .1 .1 .1 .0)) (adjointed-filled (length (s .args .out .now)) (s .args .a .now) _ k (omega (arith, at-length .length-of .ensures))) (written .ensures)
+    subst (λ (o : Output). Gives o (written .result) (written .last .1 .1 .1 .0))
+    (adjointed-filled (length (s .args .out .now)) (s .args .a .now) _ k (omega (arith, at-length .length-of .ensures))) (written .ensures)
 
 pub adjoint-spec : {M : Type 1} → statement M
 adjoint-spec =

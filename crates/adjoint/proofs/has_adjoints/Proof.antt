@@ -32,7 +32,9 @@ has-term-requires : tie.Need-has-term-requires Inv-loop μ-loop
 has-term-requires c κs = (c .before .before .before .before .before .pre .0, c .before .before .before .before .before .pre .1)
 
 returns : tie.Need-returns Inv-loop μ-loop
-returns c = among-fails _ _ (c .before .before .before .before .before .loop .i) _ _ _ (c .before .before .before .read-term .ensures) (c .before .before .adjoint-term .ensures) (c .before .has-term .ensures) (not-true _ (c .if1 .taken))
+returns c =
+    among-fails _ _ (c .before .before .before .before .before .loop .i) _ _ _ (c .before .before .before .read-term .ensures) (c .before .before .adjoint-term .ensures)
+    (c .before .has-term .ensures) (not-true _ (c .if1 .taken))
 
 add-i : tie.Need-add-i Inv-loop μ-loop
 add-i c = search needs
@@ -41,8 +43,11 @@ loop-less : tie.Need-loop-less Inv-loop μ-loop
 loop-less c = search needs
 
 loop-again : tie.Need-loop-again Inv-loop μ-loop
-loop-again c =
-    (search needs, among-goes _ _ (c .before .before .before .before .before .loop .i) _ _ _ (c .before .before .before .before .before .loop .inv .1) (c .before .before .before .read-term .ensures) (c .before .before .adjoint-term .ensures) (c .before .has-term .ensures) (not-false _ (c .if1 .left)))
+loop-again c = (
+  search needs,
+  among-goes _ _ (c .before .before .before .before .before .loop .i) _ _ _ (c .before .before .before .before .before .loop .inv .1)
+      (c .before .before .before .read-term .ensures) (c .before .before .adjoint-term .ensures) (c .before .has-term .ensures) (not-false _ (c .if1 .left)),
+)
 
 returns-2 : tie.Need-returns-2 Inv-loop μ-loop
 returns-2 c =

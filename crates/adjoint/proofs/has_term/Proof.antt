@@ -22,7 +22,8 @@ is-same-requires c κs = search needs
 
 returns-2 : tie.Need-returns-2
 returns-2 c =
-    search-at (c .before .before .before .before .before .args .t) _ _ _ (c .before .before .before .count-before .result) _ (c .before .before .before .before .before .pre .1) (c .before .before .before .count-before .ensures) (c .before .read-term .ensures) (c .is-same .ensures)
+    search-at (c .before .before .before .before .before .args .t) _ _ _ (c .before .before .before .count-before .result) _
+    (c .before .before .before .before .before .pre .1) (c .before .before .before .count-before .ensures) (c .before .read-term .ensures) (c .is-same .ensures)
 
 pub has-term-spec : {M : Type 1} → statement M
 has-term-spec =

@@ -21,7 +21,8 @@ has-adjoints-requires c κs =
 
 returns-2 : tie.Need-returns-2
 returns-2 c =
-    hermitian-found _ _ (accepted 1 _ _ (c .before .before .before .check .ensures) (c .before .if1 .left)) (λ k. c .before .before .before .before .shared-slice-known .given k .fits) _ (c .has-adjoints .ensures)
+    hermitian-found _ _ (accepted 1 _ _ (c .before .before .before .check .ensures) (c .before .if1 .left))
+    (λ k. c .before .before .before .before .shared-slice-known .given k .fits) _ (c .has-adjoints .ensures)
 
 pub is-hermitian-spec : {M : Type 1} → statement M
 is-hermitian-spec = tie.close (tie.spec check-requires returns has-adjoints-requires returns-2)

@@ -13,7 +13,8 @@ returns-2 c = tells-no (λ e. c .if2 .taken (ap (λ (x : Term). x .cre) e))
 
 returns-3 : tie.Need-returns-3
 returns-3 c =
-    same-words _ _ (c .before .before .before .before .before .before .before .if1 .left) (c .before .before .before .before .if2 .left) (record { sfits = c .before .before .struct-told .given .1 .1 .0 .1 }) (record { sfits = c .struct-told2 .given .1 .1 .0 .1 })
+    same-words _ _ (c .before .before .before .before .before .before .before .if1 .left) (c .before .before .before .before .if2 .left)
+    (record { sfits = c .before .before .struct-told .given .1 .1 .0 .1 }) (record { sfits = c .struct-told2 .given .1 .1 .0 .1 })
 
 pub is-same-spec : {M : Type 1} → statement M
 is-same-spec = tie.close (tie.spec returns returns-2 returns-3)

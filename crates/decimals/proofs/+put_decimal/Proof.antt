@@ -37,7 +37,8 @@ put-decimal-same-length t c = search needs
 
 put-decimal-returns : (t : ℕ) → put-decimal-lts.Need-returns (claims t) (put-decimal-at t) put-decimal.Post
 put-decimal-returns t c =
-    let s = c .before .before .before .before .before .before in digit-stored (s .args .s .now) (s .args .at) (s .args .n) _ _ (c .before .before .before .before .if1 .taken) (c .before .before .put-digit .ensures)
+    let s = c .before .before .before .before .before .before in
+    digit-stored (s .args .s .now) (s .args .at) (s .args .n) _ _ (c .before .before .before .before .if1 .taken) (c .before .before .put-digit .ensures)
 
 put-decimal-put-decimal-requires : (t : ℕ) → put-decimal-lts.Need-put-decimal-requires (claims t) (put-decimal-at t) put-decimal.Post
 put-decimal-put-decimal-requires t c κs =
@@ -55,8 +56,12 @@ put-decimal-same-length-2 t c = search needs
 
 put-decimal-returns-2 : (t : ℕ) → put-decimal-lts.Need-returns-2 (claims t) (put-decimal-at t) put-decimal.Post
 put-decimal-returns-2 t c =
-    let s = c .before .before .before .before .before .before .before .before .before .before in
-    digits-stored (s .args .s .now) (s .args .at) (s .args .n) _ _ (c .before .before .before .before .before .before .before .before .if1 .left) (omega (arith, s .pre .1)) _ _ (c .before .before .before .before .before .before .put-decimal .ensures) (c .before .before .put-digit2 .ensures)
+    let at-put-digit2 = c .before .before in
+    let at-put-decimal = at-put-digit2 .before .before .before .before in
+    let at-if1 = at-put-decimal .before .before in
+    let s = at-if1 .before .before in
+    digits-stored (s .args .s .now) (s .args .at) (s .args .n) _ _ (at-if1 .if1 .left) (omega (arith, s .pre .1)) _ _ (at-put-decimal .put-decimal .ensures)
+    (at-put-digit2 .put-digit2 .ensures)
 
 pub +put-decimal-spec : {M : Type 1} → statement M
 +put-decimal-spec = close μ-put-decimal λ t. put-decimal-lts.spec

@@ -40,8 +40,11 @@ loop-again : tie.Need-loop-again Inv-loop μ-loop
 loop-again c =
     let at-is-conserving = c .before .before .before in
     let at-read-term = at-is-conserving .before in
-    let at-loop = at-read-term .before .before in
-    (search needs, survey-goes _ _ _ _ (at-read-term .read-term .ensures) _ _ _ _ _ (at-loop .loop .inv .1) (at-is-conserving .is-conserving .ensures) (c .before .larger .ensures ∙ ap (max (at-loop .loop .largest)) (c .before .before .rank .ensures .0)))
+    let at-loop = at-read-term .before .before in (
+      search needs,
+      survey-goes _ _ _ _ (at-read-term .read-term .ensures) _ _ _ _ _ (at-loop .loop .inv .1) (at-is-conserving .is-conserving .ensures)
+          (c .before .larger .ensures ∙ ap (max (at-loop .loop .largest)) (c .before .before .rank .ensures .0)),
+    )
 
 returns : tie.Need-returns Inv-loop μ-loop
 returns c = survey-ends _ _ (none-left (c .before .before .before .args .s .now) _ _ (c .loop-test .left)) _ _ _ (c .before .loop .inv .1)

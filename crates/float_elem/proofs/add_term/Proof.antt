@@ -25,7 +25,8 @@ returns-2 c =
     let at-word = c .before .before in
     let a = at-word .before .before .before .args in
     let known = at-word .word .given in
-    joined-other (a .bra) (a .ket) (a .cre) (a .ann) (a .c) (a .sum) (known .0 .0) (known .0 .1 .0) (sym (known .1) ∙ at-word .before .before .apply-op-ket-u64 .ensures) (c .if1 .taken)
+    joined-other (a .bra) (a .ket) (a .cre) (a .ann) (a .c) (a .sum) (known .0 .0) (known .0 .1 .0) (sym (known .1) ∙ at-word .before .before .apply-op-ket-u64 .ensures)
+    (c .if1 .taken)
 
 returns-3 : tie.Need-returns-3
 returns-3 c =
@@ -34,7 +35,8 @@ returns-3 c =
     let at-word = at-if1 .before .before in
     let a = at-word .before .before .before .args in
     let known = at-word .word .given in
-    joined-here (a .bra) (a .ket) (a .cre) (a .ann) (a .c) (a .sum) (known .0 .0) (known .0 .1 .0) (sym (known .1) ∙ at-word .before .before .apply-op-ket-u64 .ensures) (at-if1 .if1 .left) true (at-if2 .if2 .taken)
+    joined-here (a .bra) (a .ket) (a .cre) (a .ann) (a .c) (a .sum) (known .0 .0) (known .0 .1 .0) (sym (known .1) ∙ at-word .before .before .apply-op-ket-u64 .ensures)
+    (at-if1 .if1 .left) true (at-if2 .if2 .taken)
 
 returns-4 : tie.Need-returns-4
 returns-4 c =
@@ -43,7 +45,8 @@ returns-4 c =
     let at-word = at-if1 .before .before in
     let a = at-word .before .before .before .args in
     let known = at-word .word .given in
-    joined-here (a .bra) (a .ket) (a .cre) (a .ann) (a .c) (a .sum) (known .0 .0) (known .0 .1 .0) (sym (known .1) ∙ at-word .before .before .apply-op-ket-u64 .ensures) (at-if1 .if1 .left) false (at-if2 .if2 .left)
+    joined-here (a .bra) (a .ket) (a .cre) (a .ann) (a .c) (a .sum) (known .0 .0) (known .0 .1 .0) (sym (known .1) ∙ at-word .before .before .apply-op-ket-u64 .ensures)
+    (at-if1 .if1 .left) false (at-if2 .if2 .left)
 
 pub add-term-spec : {M : Type 1} → statement M
 add-term-spec =

@@ -16,7 +16,9 @@ is-finite-requires-2 : tie.Need-is-finite-requires-2
 is-finite-requires-2 c κs = search needs
 
 returns-2 : tie.Need-returns-2
-returns-2 c = let z = c .before .before .before .args .z in c .is-finite2 .ensures ∙ second-decides (z .re) (z .im) (sym (c .before .before .is-finite .ensures) ∙ not-false _ (c .before .if1 .left))
+returns-2 c =
+    let z = c .before .before .before .args .z in
+    c .is-finite2 .ensures ∙ second-decides (z .re) (z .im) (sym (c .before .before .is-finite .ensures) ∙ not-false _ (c .before .if1 .left))
 
 pub are-finite-spec : {M : Type 1} → statement M
 are-finite-spec = tie.close (tie.spec is-finite-requires returns is-finite-requires-2 returns-2)

@@ -31,7 +31,8 @@ returns-5 : tie.Need-returns-5
 returns-5 c =
     let at-if1 = c .before .before in
     let at-from-count = at-if1 .before .before .before in
-    im-decides _ _ _ _ _ (at-from-count .from-count .result) (at-from-count .from-count .ensures) (ap isMade (at-if1 .before .enum-told .given .1)) (at-if1 .if1 .left) (c .before .if2 .left) (c .if3 .left)
+    im-decides _ _ _ _ _ (at-from-count .from-count .result) (at-from-count .from-count .ensures) (ap isMade (at-if1 .before .enum-told .given .1)) (at-if1 .if1 .left)
+    (c .before .if2 .left) (c .if3 .left)
 
 pub is-listed-spec : {M : Type 1} → statement M
 is-listed-spec =

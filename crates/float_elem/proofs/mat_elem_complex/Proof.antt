@@ -23,7 +23,8 @@ returns-2 c =
     let at-terms = c .before .before in
     let at-listed = at-terms .before .before in
     let a = at-listed .before .before .before .before .before .args in
-    term-refused (a .m) (a .cre .now) (a .ann .now) (a .re .now ∷ a .im .now ∷ []) (a .bra) (a .ket) _ (at-listed .is-listed .ensures) (not-false _ (at-terms .before .if1 .left)) _ (at-terms .check-terms .ensures) (c .if2 .taken)
+    term-refused (a .m) (a .cre .now) (a .ann .now) (a .re .now ∷ a .im .now ∷ []) (a .bra) (a .ket) _ (at-listed .is-listed .ensures)
+    (not-false _ (at-terms .before .if1 .left)) _ (at-terms .check-terms .ensures) (c .if2 .taken)
 
 words-refusal-requires : tie.Need-words-refusal-requires
 words-refusal-requires c κs = search needs
@@ -34,7 +35,8 @@ returns-3 c =
     let at-terms = at-words .before .before .before in
     let at-listed = at-terms .before .before in
     let a = at-listed .before .before .before .before .before .args in
-    word-refused (a .m) (a .cre .now) (a .ann .now) (a .re .now ∷ a .im .now ∷ []) (a .bra) (a .ket) _ (at-listed .is-listed .ensures) (not-false _ (at-terms .before .if1 .left)) _ (at-terms .check-terms .ensures) (at-words .before .if2 .left)
+    word-refused (a .m) (a .cre .now) (a .ann .now) (a .re .now ∷ a .im .now ∷ []) (a .bra) (a .ket) _ (at-listed .is-listed .ensures)
+    (not-false _ (at-terms .before .if1 .left)) _ (at-terms .check-terms .ensures) (at-words .before .if2 .left)
     _ (at-words .words-refusal .ensures) (c .if3 .taken)
 
 sum-terms-requires : tie.Need-sum-terms-requires
@@ -48,7 +50,8 @@ returns-4 c =
     let at-terms = at-words .before .before .before in
     let at-listed = at-terms .before .before in
     let a = at-listed .before .before .before .before .before .args in
-    sums-decide (a .m) (a .cre .now) (a .ann .now) (a .re .now ∷ a .im .now ∷ []) (a .bra) (a .ket) _ (at-listed .is-listed .ensures) (not-false _ (at-terms .before .if1 .left)) _ (at-terms .check-terms .ensures) (at-words .before .if2 .left)
+    sums-decide (a .m) (a .cre .now) (a .ann .now) (a .re .now ∷ a .im .now ∷ []) (a .bra) (a .ket) _ (at-listed .is-listed .ensures)
+    (not-false _ (at-terms .before .if1 .left)) _ (at-terms .check-terms .ensures) (at-words .before .if2 .left)
     _ (at-words .words-refusal .ensures) (c .before .if3 .left) _ (c .sum-terms .ensures)
 
 pub mat-elem-complex-spec : {M : Type 1} → statement M

@@ -58,7 +58,9 @@ returns c =
     let at-add = c .before .before in
     let at-loop = at-add .before .before .before .before .before .before in
     let a = at-loop .before .before .before .before .before .args in
-    sums-stop (a .bra) (a .ket) (a .cre .now) (a .ann .now) (a .re .now) (a .im .now) (at-loop .loop .sum .re) (at-loop .loop .sum .im) (length (a .cre .now) - at-loop .loop .left) (at-loop .loop .inv .1) (at-add .add-term .result .re) (at-add .add-term .result .im) (at-add .add-term .ensures .0) (at-add .add-term .ensures .1)
+    sums-stop (a .bra) (a .ket) (a .cre .now) (a .ann .now) (a .re .now) (a .im .now) (at-loop .loop .sum .re) (at-loop .loop .sum .im)
+    (length (a .cre .now) - at-loop .loop .left) (at-loop .loop .inv .1) (at-add .add-term .result .re) (at-add .add-term .result .im) (at-add .add-term .ensures .0)
+    (at-add .add-term .ensures .1)
     (sym (c .before .are-finite .ensures) ∙ not-true _ (c .if1 .taken)) (omega arith)
 
 sub-left : tie.Need-sub-left Inv-loop μ-loop
@@ -73,14 +75,17 @@ loop-again c =
     let at-loop = at-add .before .before .before .before .before .before in
     let a = at-loop .before .before .before .before .before .args in (
       search needs,
-      sums-go (a .bra) (a .ket) (a .cre .now) (a .ann .now) (a .re .now) (a .im .now) (at-loop .loop .sum .re) (at-loop .loop .sum .im) (length (a .cre .now) - at-loop .loop .left) (at-loop .loop .inv .1) (at-add .add-term .result .re) (at-add .add-term .result .im) (at-add .add-term .ensures .0) (at-add .add-term .ensures .1)
+      sums-go (a .bra) (a .ket) (a .cre .now) (a .ann .now) (a .re .now) (a .im .now) (at-loop .loop .sum .re) (at-loop .loop .sum .im)
+          (length (a .cre .now) - at-loop .loop .left) (at-loop .loop .inv .1) (at-add .add-term .result .re) (at-add .add-term .result .im) (at-add .add-term .ensures .0)
+          (at-add .add-term .ensures .1)
           (sym (c .before .are-finite .ensures) ∙ not-false _ (c .if1 .left)) _ (omega arith),
     )
 
 returns-2 : tie.Need-returns-2 Inv-loop μ-loop
 returns-2 c =
     let a = c .before .before .before .before .before .before .args in
-    sums-end (a .bra) (a .ket) (a .cre .now) (a .ann .now) (a .re .now) (a .im .now) (c .before .loop .sum .re) (c .before .loop .sum .im) (length (a .cre .now) - c .before .loop .left) (c .before .loop .inv .1) (omega arith)
+    sums-end (a .bra) (a .ket) (a .cre .now) (a .ann .now) (a .re .now) (a .im .now) (c .before .loop .sum .re) (c .before .loop .sum .im)
+    (length (a .cre .now) - c .before .loop .left) (c .before .loop .inv .1) (omega arith)
 
 pub sum-terms-spec : {M : Type 1} → statement M
 sum-terms-spec =

@@ -23,9 +23,11 @@ same-length c = search needs
 
 returns-2 : tie.Need-returns-2
 returns-2 c =
-    let s = c .before .before .before .before .before .before .before .before in
-    closed-stored (s .args .place) (s .args .row) (s .args .work .now) (c .before .before .put-row .last .0) (s .pre .0) (s .pre .1)
-    (c .before .before .before .before .if1 .left) (c .before .before .put-row .ensures)
+    let at-put-row = c .before .before in
+    let at-if1 = at-put-row .before .before in
+    let s = at-if1 .before .before .before .before in
+    closed-stored (s .args .place) (s .args .row) (s .args .work .now) (at-put-row .put-row .last .0) (s .pre .0) (s .pre .1)
+    (at-if1 .if1 .left) (at-put-row .put-row .ensures)
 
 pub close-spec : {M : Type 1} → statement M
 close-spec = tie.close (tie.spec returns mul-put-row put-row-requires add-result same-length returns-2)

@@ -25,10 +25,13 @@ same-length c = search needs
 
 returns : tie.Need-returns
 returns c =
-    let s = c .before .before .before .before .before .before .before .before .before .before in
-    let r = c .before .before .before .before .before .before .before .before .rows in
-    let w = c .before .before .before .before .before .before .sort in
-    let j = c .before .before .join in
+    let at-join = c .before .before in
+    let at-sort = at-join .before .before .before .before in
+    let at-rows = at-sort .before .before in
+    let s = at-rows .before .before in
+    let r = at-rows .rows in
+    let w = at-sort .sort in
+    let j = at-join .join in
     collected (s .args .n) (s .args .work .now) (w .last .0) (r .result) (r .ensures) (w .ensures) (j .last .0) (j .result) (j .ensures)
 
 pub collect-spec : {M : Type 1} → statement M

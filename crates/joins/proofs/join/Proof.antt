@@ -41,16 +41,20 @@ loop-less c = search needs
 
 loop-again : tie.Need-loop-again Inv-loop μ-loop
 loop-again c =
-    let s = c .before .before .before .before .before .before .before .before .before .before in
-    let p = c .before .before .before .before .before .loop in
-    let w = c .before .before .meet in
-    joining-on (s .args .n) (p .i) (s .args .work .now) (p .work) (p .o .place) (p .o .row) (p .inv) (c .before .before .before .before .loop-test .taken) (s .pre .1) (s .pre .2)
+    let at-meet = c .before .before in
+    let at-loop-test = at-meet .before .before in
+    let at-loop = at-loop-test .before in
+    let s = at-loop .before .before .before .before .before in
+    let p = at-loop .loop in
+    let w = at-meet .meet in
+    joining-on (s .args .n) (p .i) (s .args .work .now) (p .work) (p .o .place) (p .o .row) (p .inv) (at-loop-test .loop-test .taken) (s .pre .1) (s .pre .2)
     (w .last .0) (w .result .place) (w .result .row) (w .ensures)
 
 close-requires : tie.Need-close-requires Inv-loop μ-loop
 close-requires c κs =
-    let s = c .before .before .before .before .before .before .before .before in
-    let p = c .before .before .before .loop in
+    let at-loop = c .before .before .before in
+    let s = at-loop .before .before .before .before .before in
+    let p = at-loop .loop in
     (place-room (s .args .n) (p .i) (s .args .work .now) (p .work) (p .o .place) (p .o .row) (p .inv) (s .pre .0), p .inv .hand .own)
 
 same-length : tie.Need-same-length Inv-loop μ-loop
@@ -58,11 +62,14 @@ same-length c = search needs
 
 returns-2 : tie.Need-returns-2 Inv-loop μ-loop
 returns-2 c =
-    let s = c .before .before .before .before .before .before .before .before .before .before .before in
-    let p = c .before .before .before .before .before .before .loop in
-    let w = c .before .before .close in
+    let at-close = c .before .before in
+    let at-loop-test = at-close .before .before .before in
+    let at-loop = at-loop-test .before in
+    let s = at-loop .before .before .before .before .before in
+    let p = at-loop .loop in
+    let w = at-close .close in
     joined-all (s .args .n) (p .i) (s .args .work .now) (p .work) (w .last .0) (p .o .place) (w .result) (p .o .row) (p .inv)
-    (c .before .before .before .before .before .loop-test .left) (w .ensures)
+    (at-loop-test .loop-test .left) (w .ensures)
 
 pub join-spec : {M : Type 1} → statement M
 join-spec =

@@ -41,12 +41,15 @@ same-length-2 c = search needs
 
 returns-2 : tie.Need-returns-2
 returns-2 c =
-    let s = c .before .before .before .before .before .before .before .before .before .before .before in
-    let y = c .before .before .before .before .before .before .before .get-row in
-    let k = c .before .before .close in
+    let at-close = c .before .before in
+    let at-if1 = at-close .before .before in
+    let at-get-row = at-if1 .before .before .before in
+    let s = at-get-row .before .before .before .before in
+    let y = at-get-row .get-row in
+    let k = at-close .close in
     met-opened (s .args .o .row) (y .result) (rowAt (s .args .work .now) (24 * s .args .i)) (y .ensures .0) (y .ensures .1)
     (s .args .o .place) (k .result) (s .args .work .now) (k .last .0)
-    (λ b a. ⊎-elim (λ w. w .3 .left b) (λ w. w .left a) (c .before .before .before .before .if1 .came)) (k .ensures)
+    (λ b a. ⊎-elim (λ w. w .3 .left b) (λ w. w .left a) (at-if1 .if1 .came)) (k .ensures)
 
 pub meet-spec : {M : Type 1} → statement M
 meet-spec =

@@ -62,7 +62,8 @@ add-result-3 c = search needs
 returns : tie.Need-returns
 unfolding numAt num
 returns c =
-    let a = c .before .before .before .before .before .before .before .before .before in
+    let further = c .before .before .before .before .before .before .before in
+    let a = further .before .before in
     let l = a .args .s .now in
     let o = a .args .at in (
       rw (

@@ -31,13 +31,19 @@ same-length c = search needs
 
 returns : tie.Need-returns
 returns c =
-    let a = c .before .before .before .before .before .before .before .before .before .before .before .before .before .before .before in
-    let p1 = c .before .before .before .before .before .before .before .before .before .before .before .before .put-word in
-    let p2 = c .before .before .before .before .before .before .before .before .put-word2 in
-    let p3 = c .before .before .put-word3 in
-    let b = c .before .before .before .bits in
-    let small : SFits w64 (a .args .t .coeff) = record { sfits = c .before .before .before .before .struct-told .given .1 .1 .0 .1 } in
-    put-words (a .args .s .now) (p1 .last .0) (p2 .last .0) (p3 .last .0) (a .args .at) (b .result) (a .args .t) (a .pre) (p1 .ensures) (p2 .ensures) (p3 .ensures) (b .ensures ∙ ap (ofZ w64) (toZ-ofZ small))
+    let at-put-word3 = c .before .before in
+    let at-bits = at-put-word3 .before in
+    let at-struct-told = at-bits .before in
+    let at-put-word2 = at-struct-told .before .before .before .before in
+    let at-put-word = at-put-word2 .before .before .before .before in
+    let a = at-put-word .before .before .before in
+    let p1 = at-put-word .put-word in
+    let p2 = at-put-word2 .put-word2 in
+    let p3 = at-put-word3 .put-word3 in
+    let b = at-bits .bits in
+    let small : SFits w64 (a .args .t .coeff) = record { sfits = at-struct-told .struct-told .given .1 .1 .0 .1 } in
+    put-words (a .args .s .now) (p1 .last .0) (p2 .last .0) (p3 .last .0) (a .args .at) (b .result) (a .args .t) (a .pre) (p1 .ensures) (p2 .ensures) (p3 .ensures)
+    (b .ensures ∙ ap (ofZ w64) (toZ-ofZ small))
 
 pub put-row-spec : {M : Type 1} → statement M
 put-row-spec =

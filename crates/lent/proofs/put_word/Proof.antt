@@ -19,7 +19,8 @@ same-length c = search needs
 
 returns : tie.Need-returns
 returns c =
-    let a = c .before .before .before .before .before .before .before .before .before in
+    let further = c .before .before .before .before .before .before .before in
+    let a = further .before .before in
     cc (put-split 4 4 (a .args .s .now) (a .args .at) (a .args .x) (omega arith))
 
 pub put-word-spec : {M : Type 1} → statement M

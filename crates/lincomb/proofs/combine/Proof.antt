@@ -23,9 +23,13 @@ same-length c = search needs
 
 returns : tie.Need-returns
 returns c =
-    let s = c .before .before .before .before .before .before .before .before .before .before .before .args in
-    let pair = pair-refused (s .sign .0) _ _ (s .out .now) _ (c .before .before .before .before .before .before .before .open-operands .ensures) (c .before .before .before .before .before .if1 .taken) in
-    gives-as pair (c .before .before .refuse .ensures)
+    let at-refuse = c .before .before in
+    let at-if1 = at-refuse .before .before .before in
+    let at-open-operands = at-if1 .before .before in
+    let start = at-open-operands .before .before .before .before in
+    let s = start .args in
+    let pair = pair-refused (s .sign .0) _ _ (s .out .now) _ (at-open-operands .open-operands .ensures) (at-if1 .if1 .taken) in
+    gives-as pair (at-refuse .refuse .ensures)
 
 count-terms-requires : tie.Need-count-terms-requires
 count-terms-requires c κs =
@@ -53,14 +57,23 @@ returns-2 : tie.Need-returns-2
 returns-2 c =
     let v = c .before .before .before .before .before .before in
     let s = start v .args in
-    gives-as (result-refused (s .sign .0) _ _ (s .out .now) _ (pair v .open-operands .ensures) (v .before .before .if1 .left) _ (v .before .count-terms .ensures) _ (v .verdict .ensures) (c .before .before .before .before .if2 .taken)) (c .before .before .refuse2 .ensures)
+    gives-as (result-refused (s .sign .0) _ _ (s .out .now) _ (pair v .open-operands .ensures) (v .before .before .if1 .left) _ (v .before .count-terms .ensures) _
+    (v .verdict .ensures) (c .before .before .before .before .if2 .taken)) (c .before .before .refuse2 .ensures)
 
 write-sum-requires : tie.Need-write-sum-requires
 write-sum-requires c κs =
     let v = c .before .before .before in
     let s = start v .args in
-    let f = room-enough (s .sign .0) _ _ (s .out .now) _ (pair v .open-operands .ensures) (v .before .before .if1 .left) _ (v .before .count-terms .ensures) _ (v .verdict .ensures) (c .before .if2 .left) in
-    ((sound-left (s .sign .0) _ _ (s .out .now) _ (pair v .open-operands .ensures) (v .before .before .if1 .left), sound-right (s .sign .0) _ _ (s .out .now) _ (pair v .open-operands .ensures) (v .before .before .if1 .left)), (v .before .count-terms .ensures .terms, f .long, f .few))
+    let f =
+    room-enough (s .sign .0) _ _ (s .out .now) _ (pair v .open-operands .ensures) (v .before .before .if1 .left) _ (v .before .count-terms .ensures) _
+    (v .verdict .ensures) (c .before .if2 .left) in (
+      (
+        sound-left (s .sign .0) _ _ (s .out .now) _ (pair v .open-operands .ensures) (v .before .before .if1 .left),
+        sound-right (s .sign .0) _ _ (s .out .now) _
+            (pair v .open-operands .ensures) (v .before .before .if1 .left),
+      ),
+      (v .before .count-terms .ensures .terms, f .long, f .few),
+    )
 
 same-length-3 : tie.Need-same-length-3
 same-length-3 c = search needs
@@ -69,7 +82,8 @@ returns-3 : tie.Need-returns-3
 returns-3 c =
     let v = c .before .before .before .before .before .before in
     let s = start v .args in
-    gives-as (result-delivered (s .sign .0) _ _ (s .out .now) _ (pair v .open-operands .ensures) (v .before .before .if1 .left) _ (v .before .count-terms .ensures) _ (v .verdict .ensures) (c .before .before .before .before .if2 .left)) (c .before .before .write-sum .ensures)
+    gives-as (result-delivered (s .sign .0) _ _ (s .out .now) _ (pair v .open-operands .ensures) (v .before .before .if1 .left) _ (v .before .count-terms .ensures) _
+    (v .verdict .ensures) (c .before .before .before .before .if2 .left)) (c .before .before .write-sum .ensures)
 
 pub combine-spec : {M : Type 1} → statement M
 combine-spec =

@@ -19,7 +19,8 @@ read-term-requires-2 : tie.Need-read-term-requires-2
 read-term-requires-2 c κs = search needs
 
 turned-requires : tie.Need-turned-requires
-turned-requires c κs = omega (arith, small-read _ _ (c .before .before .before .before .before .args .j) _ (c .before .before .before .before .before .pre .0 .1) (c .read-term2 .ensures))
+turned-requires c κs =
+    omega (arith, small-read _ _ (c .before .before .before .before .before .args .j) _ (c .before .before .before .before .before .pre .0 .1) (c .read-term2 .ensures))
 
 add-t16 : tie.Need-add-t16
 add-t16 c = search needs
@@ -28,7 +29,9 @@ returns-2 : tie.Need-returns-2
 returns-2 c =
     let at-if1 = c .before .before .before in
     let at-start = at-if1 .before .before .before in
-    only-right (at-start .args .sign .0) _ _ _ _ _ _ _ (at-if1 .if1 .left) (next-right (at-start .args .sign .0) (at-start .args .b .now) (at-start .args .nb) (at-start .args .j) _ _ (c .before .read-term2 .ensures) (c .turned .ensures)) (c .before .before .if2 .taken) (omega arith)
+    only-right (at-start .args .sign .0) _ _ _ _ _ _ _ (at-if1 .if1 .left)
+    (next-right (at-start .args .sign .0) (at-start .args .b .now) (at-start .args .nb) (at-start .args .j) _ _ (c .before .read-term2 .ensures) (c .turned .ensures))
+    (c .before .before .if2 .taken) (omega arith)
 
 read-term-requires-3 : tie.Need-read-term-requires-3
 read-term-requires-3 c κs = search needs
@@ -52,7 +55,8 @@ abbrev start : tie.After-turned2 → tie.Start
 start k = k .before .before .before .before .before .before .before
 
 heads : (k : tie.After-turned2)
-    → Heads (start k .args .sign .0) (start k .args .a .now) (start k .args .na) (start k .args .i) (start k .args .b .now) (start k .args .nb) (start k .args .j) (k .before .before .read-term3 .result) (k .turned2 .result)
+    → Heads (start k .args .sign .0) (start k .args .a .now) (start k .args .na) (start k .args .i) (start k .args .b .now) (start k .args .nb) (start k .args .j)
+    (k .before .before .read-term3 .result) (k .turned2 .result)
 heads k = record {
   left-there = omega (arith, k .before .before .before .if2 .left);
   right-there = omega (arith, k .before .before .before .before .if1 .left);
@@ -72,7 +76,8 @@ add-t21 c = search needs
 returns-4 : tie.Need-returns-4
 returns-4 c =
     let at-is-before = c .before .before .before in
-    step-greater _ _ _ _ _ _ _ (heads (at-is-before .before)) (sym (at-is-before .is-before .ensures) ∙ c .before .before .if3 .left) (sym (c .before .is-before2 .ensures) ∙ c .if4 .taken)
+    step-greater _ _ _ _ _ _ _ (heads (at-is-before .before)) (sym (at-is-before .is-before .ensures) ∙ c .before .before .if3 .left)
+    (sym (c .before .is-before2 .ensures) ∙ c .if4 .taken)
 
 joined-requires : tie.Need-joined-requires
 joined-requires c κs =
@@ -81,7 +86,8 @@ joined-requires c κs =
     let at-read-term3 = at-read-term4 .before in
     let at-start = at-read-term3 .before .before .before .before .before in
     let t = small-read _ _ (at-start .args .i) _ (at-start .pre .0 .0) (at-read-term3 .read-term3 .ensures) in
-    let u = small-turned (at-start .args .sign .0) _ _ (at-turned2 .turned2 .ensures) (small-read _ _ (at-start .args .j) _ (at-start .pre .0 .1) (at-read-term4 .read-term4 .ensures)) in
+    let u =
+    small-turned (at-start .args .sign .0) _ _ (at-turned2 .turned2 .ensures) (small-read _ _ (at-start .args .j) _ (at-start .pre .0 .1) (at-read-term4 .read-term4 .ensures)) in
     omega arith
 
 add-t22 : tie.Need-add-t22

@@ -13,7 +13,8 @@ use Rattle.lincomb.proofs.put_terms.Statement.{statement}
 use Rattle.lincomb.proofs.put_terms.Tie as tie
 
 abbrev Inv-loop : tie.InvT-loop
-Inv-loop sign a na b nb out₀ n i₀ j₀ k₀ out i j k = (i ≤ na) × (j ≤ nb) × Writing n (onward (sign .0) a na b nb 0 0) (onward (sign .0) a na b nb i j) k out × (length out ≡ length out₀)
+Inv-loop sign a na b nb out₀ n i₀ j₀ k₀ out i j k =
+    (i ≤ na) × (j ≤ nb) × Writing n (onward (sign .0) a na b nb 0 0) (onward (sign .0) a na b nb i j) k out × (length out ≡ length out₀)
 
 abbrev μ-loop : tie.MeasureT-loop
 μ-loop sign a na b nb out₀ n i₀ j₀ k₀ out i j k = na + nb - (i + j)

@@ -42,7 +42,8 @@ returns-3 c =
     let at-words = c .before .before .before in
     let at-if1 = at-words .before in
     let small : SFits w64 (c .sum-parts .result) = record { sfits = c .sum-parts .ok } in
-    element-found _ _ _ _ (at-if1 .before .before .check .ensures) (at-if1 .if1 .left) _ (at-words .words-refusal .ensures) (c .before .if2 .left) _ (toZ-ofZ small ∙ c .sum-parts .ensures)
+    element-found _ _ _ _ (at-if1 .before .before .check .ensures) (at-if1 .if1 .left) _ (at-words .words-refusal .ensures) (c .before .if2 .left) _
+    (toZ-ofZ small ∙ c .sum-parts .ensures)
 
 pub element-spec : {M : Type 1} → statement M
 element-spec =

@@ -30,8 +30,11 @@ returns c =
 returns-2 : tie.Need-returns-2
 returns-2 c =
     let s = c .before .before .before .before .before in
-    let known = c .before .before .word .given in
-    (part-other (s .args .bra) (s .args .ket) (s .args .t) (known .0 .0) (known .0 .1 .0) (sym (known .1) ∙ c .before .before .before .before .apply-op-ket-u64 .ensures) (c .if1 .taken), zero-le)
+    let known = c .before .before .word .given in (
+      part-other (s .args .bra) (s .args .ket) (s .args .t) (known .0 .0) (known .0 .1 .0) (sym (known .1) ∙ c .before .before .before .before .apply-op-ket-u64 .ensures)
+          (c .if1 .taken),
+      zero-le,
+    )
 
 signed-coeff-requires : tie.Need-signed-coeff-requires
 signed-coeff-requires c κs = search needs
@@ -43,7 +46,8 @@ returns-3 c =
     let small : SFits w64 (c .signed-coeff .result) = record { sfits = c .signed-coeff .ok } in
     let same : toZ w64 (ofZ w64 (c .signed-coeff .result)) ≡ signed (known .0 .1 .0 .0) (s .args .t .coeff) =
     toZ-ofZ small ∙ c .signed-coeff .ensures ∙ ap (signed (known .0 .1 .0 .0)) (toZ-ofZ (abs-fits (s .args .t .coeff) (s .pre))) in (
-      same ∙ part-here (s .args .bra) (s .args .ket) (s .args .t) (known .0 .0) (known .0 .1 .0) (sym (known .1) ∙ c .before .before .before .before .before .before .apply-op-ket-u64 .ensures) (c .before .before .if1 .left),
+      same ∙ part-here (s .args .bra) (s .args .ket) (s .args .t) (known .0 .0) (known .0 .1 .0)
+          (sym (known .1) ∙ c .before .before .before .before .before .before .apply-op-ket-u64 .ensures) (c .before .before .if1 .left),
       rw (same, abs-signed) (le-refl _),
     )
 

@@ -32,7 +32,9 @@ shared-slice-read-if1 : tie.Need-shared-slice-read-if1 Inv-loop μ-loop
 shared-slice-read-if1 c = search needs
 
 returns : tie.Need-returns Inv-loop μ-loop
-returns c = found-among _ (c .before .before .before .before .before .args .basis .now) _ (c .before .before .before .loop .j) (omega arith) (c .before .before .loop-test .taken) (c .if1 .taken)
+returns c =
+    found-among _ (c .before .before .before .before .before .args .basis .now) _ (c .before .before .before .loop .j) (omega arith) (c .before .before .loop-test .taken)
+    (c .if1 .taken)
 
 add-j : tie.Need-add-j Inv-loop μ-loop
 add-j c = search needs

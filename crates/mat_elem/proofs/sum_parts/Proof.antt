@@ -36,7 +36,8 @@ sum-requires c κs =
     let s = c .before .before .before .before .before in
     let l = c .before .before .before .loop in
     let p : SFits w64 (c .part-of .result) = record { sfits = c .part-of .ok } in
-    rw (toZ-ofZ p) (sum-fits (s .args .bra) (s .args .ket) (termsIn (s .args .s .now) (s .args .n)) (toZ w64 (l .sum)) (c .part-of .result) (l .i) (c .before .read-term .result) (c .before .read-term .ensures) (l .inv .1) (c .part-of .ensures .1))
+    rw (toZ-ofZ p) (sum-fits (s .args .bra) (s .args .ket) (termsIn (s .args .s .now) (s .args .n)) (toZ w64 (l .sum)) (c .part-of .result) (l .i)
+    (c .before .read-term .result) (c .before .read-term .ensures) (l .inv .1) (c .part-of .ensures .1))
 
 add-i : tie.Need-add-i Inv-loop μ-loop
 add-i c = search needs
@@ -53,7 +54,8 @@ loop-again c =
     let fits : SFits w64 (p .result) = record { sfits = p .ok } in
     let sums : SFits w64 (c .sum .result) = record { sfits = c .sum .ok } in (
       rw (add-one (l .i)) (c .before .before .before .loop-test .taken),
-      sum-goes (s .args .bra) (s .args .ket) (termsIn (s .args .s .now) (s .args .n)) (toZ w64 (l .sum)) (p .result) (toZ w64 (ofZ w64 (c .sum .result))) (l .i) (t .result) (t .ensures) (l .inv .1) (p .ensures .0) (p .ensures .1)
+      sum-goes (s .args .bra) (s .args .ket) (termsIn (s .args .s .now) (s .args .n)) (toZ w64 (l .sum)) (p .result) (toZ w64 (ofZ w64 (c .sum .result))) (l .i)
+          (t .result) (t .ensures) (l .inv .1) (p .ensures .0) (p .ensures .1)
           (toZ-ofZ sums ∙ c .sum .ensures ∙ ap (λ (z : ℤ). toZ w64 (l .sum) +ℤ z) (toZ-ofZ fits)),
     )
 
@@ -61,7 +63,8 @@ returns : tie.Need-returns Inv-loop μ-loop
 returns c =
     let s = c .before .before .before in
     let l = c .before .loop in
-    sum-ends (s .args .bra) (s .args .ket) (termsIn (s .args .s .now) (s .args .n)) (toZ w64 (l .sum)) (l .i) (none-left (s .args .s .now) (s .args .n) (l .i) (c .loop-test .left)) (l .inv .1)
+    sum-ends (s .args .bra) (s .args .ket) (termsIn (s .args .s .now) (s .args .n)) (toZ w64 (l .sum)) (l .i)
+    (none-left (s .args .s .now) (s .args .n) (l .i) (c .loop-test .left)) (l .inv .1)
 
 pub sum-parts-spec : {M : Type 1} → statement M
 sum-parts-spec =

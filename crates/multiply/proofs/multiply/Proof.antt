@@ -19,8 +19,10 @@ same-length-2 c = search needs
 
 returns : tie.Need-returns
 returns c =
-    let made = c .before .before .before .before .before .before .before .before .produce in
-    let done = c .before .before .finish .ensures in
+    let at-finish = c .before .before in
+    let at-produce = at-finish .before .before .before .before .before .before in
+    let made = at-produce .produce in
+    let done = at-finish .finish .ensures in
     record { output = record { answer = rw (made .ensures .answer) at (done .0); bytes = made .ensures .bytes }; clean = done .1 ∙ ap zeros (made .kept .1 .1 .1 .1 .0) }
 
 pub multiply-spec : {M : Type 1} → statement M

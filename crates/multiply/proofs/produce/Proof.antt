@@ -18,8 +18,13 @@ same-length c = search needs
 
 returns : tie.Need-returns
 returns c =
-    let s = c .before .before .before .before .before .before .before .before .before .before .before .before .args in
-    gives-as (pair-refused (s .both) (s .sign .0) (s .a .now) (s .b .now) (length (s .work .now)) (length (s .out .now)) (c .before .before .before .before .before .before .before .open-operands .result) (c .before .before .before .before .before .before .before .open-operands .ensures) (c .before .before .before .before .before .if1 .taken)) (c .before .before .refuse .ensures)
+    let at-refuse = c .before .before in
+    let at-if1 = at-refuse .before .before .before in
+    let at-open-operands = at-if1 .before .before in
+    let start = at-open-operands .before .before .before .before .before in
+    let s = start .args in
+    gives-as (pair-refused (s .both) (s .sign .0) (s .a .now) (s .b .now) (length (s .work .now)) (length (s .out .now)) (at-open-operands .open-operands .result)
+    (at-open-operands .open-operands .ensures) (at-if1 .if1 .taken)) (at-refuse .refuse .ensures)
 
 weight-refusal-requires : tie.Need-weight-refusal-requires
 weight-refusal-requires c κs = search needs
@@ -32,13 +37,33 @@ same-length-2 c = search needs
 
 returns-2 : tie.Need-returns-2
 returns-2 c =
-    let s = c .before .before .before .before .before .before .before .before .before .before .before .before .before .before .args in
-    gives-as (heavy-refused (s .both) (s .sign .0) (s .a .now) (s .b .now) (length (s .work .now)) (length (s .out .now)) (c .before .before .before .before .before .before .before .before .before .open-operands .result) (c .before .before .before .before .before .before .before .before .before .open-operands .ensures) (c .before .before .before .before .before .before .before .if1 .left) _ (c .before .before .before .before .before .before .weight-refusal .ensures) (c .before .before .before .before .if2 .taken)) (c .before .before .refuse2 .ensures)
+    let at-refuse2 = c .before .before in
+    let at-if2 = at-refuse2 .before .before in
+    let at-weight-refusal = at-if2 .before .before in
+    let at-if1 = at-weight-refusal .before in
+    let at-open-operands = at-if1 .before .before in
+    let start = at-open-operands .before .before .before .before .before in
+    let s = start .args in
+    gives-as (heavy-refused (s .both) (s .sign .0) (s .a .now) (s .b .now) (length (s .work .now)) (length (s .out .now)) (at-open-operands .open-operands .result)
+    (at-open-operands .open-operands .ensures) (at-if1 .if1 .left) _ (at-weight-refusal .weight-refusal .ensures) (at-if2 .if2 .taken)) (at-refuse2 .refuse2 .ensures)
 
 append-all-requires : tie.Need-append-all-requires
 append-all-requires c κs =
-    let s = c .before .before .before .before .before .before .before .before .before .before .before .args in
-    (left-size (s .both) (s .sign .0) (s .a .now) (s .b .now) (length (s .work .now)) (length (s .out .now)) (c .before .before .before .before .before .before .open-operands .result) (c .before .before .before .before .before .before .open-operands .ensures) (c .before .before .before .before .if1 .left) _ (c .before .before .before .weight-refusal .ensures) (c .before .if2 .left), right-size (s .both) (s .sign .0) (s .a .now) (s .b .now) (length (s .work .now)) (length (s .out .now)) (c .before .before .before .before .before .before .open-operands .result) (c .before .before .before .before .before .before .open-operands .ensures) (c .before .before .before .before .if1 .left) _ (c .before .before .before .weight-refusal .ensures) (c .before .if2 .left), weights-light (s .both) (s .sign .0) (s .a .now) (s .b .now) (length (s .work .now)) (length (s .out .now)) (c .before .before .before .before .before .before .open-operands .result) (c .before .before .before .before .before .before .open-operands .ensures) (c .before .before .before .before .if1 .left) _ (c .before .before .before .weight-refusal .ensures) (c .before .if2 .left))
+    let at-if2 = c .before in
+    let at-weight-refusal = at-if2 .before .before in
+    let at-if1 = at-weight-refusal .before in
+    let at-open-operands = at-if1 .before .before in
+    let start = at-open-operands .before .before .before .before .before in
+    let s = start .args in (
+      left-size (s .both) (s .sign .0) (s .a .now) (s .b .now) (length (s .work .now)) (length (s .out .now)) (at-open-operands .open-operands .result)
+          (at-open-operands .open-operands .ensures) (at-if1 .if1 .left) _ (at-weight-refusal .weight-refusal .ensures) (at-if2 .if2 .left),
+      right-size (s .both) (s .sign .0)
+          (s .a .now) (s .b .now) (length (s .work .now)) (length (s .out .now)) (at-open-operands .open-operands .result) (at-open-operands .open-operands .ensures)
+          (at-if1 .if1 .left) _ (at-weight-refusal .weight-refusal .ensures) (at-if2 .if2 .left),
+      weights-light (s .both) (s .sign .0) (s .a .now) (s .b .now)
+          (length (s .work .now)) (length (s .out .now)) (at-open-operands .open-operands .result) (at-open-operands .open-operands .ensures) (at-if1 .if1 .left) _
+          (at-weight-refusal .weight-refusal .ensures) (at-if2 .if2 .left),
+    )
 
 refuse-requires-3 : tie.Need-refuse-requires-3
 refuse-requires-3 c κs = search needs
@@ -51,21 +76,59 @@ same-length-4 c = search needs
 
 returns-3 : tie.Need-returns-3
 returns-3 c =
-    let s = c .before .before .before .before .before .before .before .before .before .before .before .before .before .before .before .before .before .before .before .before .args in
-    let grown = c .before .before .before .before .before .before .before .before .append-all in
-    gives-as (too-many (s .both) (s .sign .0) (s .a .now) (s .b .now) (length (s .work .now)) (length (s .out .now)) (c .before .before .before .before .before .before .before .before .before .before .before .before .before .before .before .open-operands .result) (c .before .before .before .before .before .before .before .before .before .before .before .before .before .before .before .open-operands .ensures) (c .before .before .before .before .before .before .before .before .before .before .before .before .before .if1 .left) _ (c .before .before .before .before .before .before .before .before .before .before .before .before .weight-refusal .ensures) (c .before .before .before .before .before .before .before .before .before .before .if2 .left) (grown .last .1 .1 .0) (grown .kept .1 .1 .0) (grown .result) (grown .ensures) (c .before .before .before .before .if3 .taken)) (c .before .before .refuse3 .ensures)
+    let at-refuse3 = c .before .before in
+    let at-if3 = at-refuse3 .before .before in
+    let at-append-all = at-if3 .before .before .before .before in
+    let at-if2 = at-append-all .before .before in
+    let at-weight-refusal = at-if2 .before .before in
+    let at-if1 = at-weight-refusal .before in
+    let at-open-operands = at-if1 .before .before in
+    let start = at-open-operands .before .before .before .before .before in
+    let s = start .args in
+    let grown = at-append-all .append-all in
+    gives-as (too-many (s .both) (s .sign .0) (s .a .now) (s .b .now) (length (s .work .now)) (length (s .out .now)) (at-open-operands .open-operands .result)
+    (at-open-operands .open-operands .ensures) (at-if1 .if1 .left) _ (at-weight-refusal .weight-refusal .ensures) (at-if2 .if2 .left) (grown .last .1 .1 .0)
+    (grown .kept .1 .1 .0) (grown .result) (grown .ensures) (at-if3 .if3 .taken)) (at-refuse3 .refuse3 .ensures)
 
 collect-requires : tie.Need-collect-requires
 collect-requires c κs =
-    let s = c .before .before .before .before .before .before .before .before .before .before .before .before .before .before .before .before .before .before .args in
-    let grown = c .before .before .before .before .before .before .append-all in
-    (collect-room (s .both) (s .sign .0) (s .a .now) (s .b .now) (length (s .work .now)) (length (s .out .now)) (c .before .before .before .before .before .before .before .before .before .before .before .before .before .open-operands .result) (c .before .before .before .before .before .before .before .before .before .before .before .before .before .open-operands .ensures) (c .before .before .before .before .before .before .before .before .before .before .before .if1 .left) _ (c .before .before .before .before .before .before .before .before .before .before .weight-refusal .ensures) (c .before .before .before .before .before .before .before .before .if2 .left) (grown .last .1 .1 .0) (grown .kept .1 .1 .0) (grown .result) (grown .ensures) (c .before .before .if3 .left), collect-light (s .both) (s .sign .0) (s .a .now) (s .b .now) (length (s .work .now)) (length (s .out .now)) (c .before .before .before .before .before .before .before .before .before .before .before .before .before .open-operands .result) (c .before .before .before .before .before .before .before .before .before .before .before .before .before .open-operands .ensures) (c .before .before .before .before .before .before .before .before .before .before .before .if1 .left) _ (c .before .before .before .before .before .before .before .before .before .before .weight-refusal .ensures) (c .before .before .before .before .before .before .before .before .if2 .left) (grown .last .1 .1 .0) (grown .kept .1 .1 .0) (grown .result) (grown .ensures) (c .before .before .if3 .left))
+    let at-if3 = c .before .before in
+    let at-append-all = at-if3 .before .before .before .before in
+    let at-if2 = at-append-all .before .before in
+    let at-weight-refusal = at-if2 .before .before in
+    let at-if1 = at-weight-refusal .before in
+    let at-open-operands = at-if1 .before .before in
+    let start = at-open-operands .before .before .before .before .before in
+    let s = start .args in
+    let grown = at-append-all .append-all in (
+      collect-room (s .both) (s .sign .0) (s .a .now) (s .b .now) (length (s .work .now)) (length (s .out .now)) (at-open-operands .open-operands .result)
+          (at-open-operands .open-operands .ensures) (at-if1 .if1 .left) _ (at-weight-refusal .weight-refusal .ensures) (at-if2 .if2 .left) (grown .last .1 .1 .0)
+          (grown .kept .1 .1 .0) (grown .result) (grown .ensures) (at-if3 .if3 .left),
+      collect-light (s .both) (s .sign .0) (s .a .now) (s .b .now) (length (s .work .now))
+          (length (s .out .now)) (at-open-operands .open-operands .result) (at-open-operands .open-operands .ensures) (at-if1 .if1 .left) _
+          (at-weight-refusal .weight-refusal .ensures) (at-if2 .if2 .left) (grown .last .1 .1 .0) (grown .kept .1 .1 .0) (grown .result) (grown .ensures) (at-if3 .if3 .left),
+    )
 
 deliver-requires : tie.Need-deliver-requires
 deliver-requires c κs =
-    let s = c .before .before .before .before .before .before .before .before .before .before .before .before .before .before .before .before .before .before .before .before .before .before .before .before .args in
-    let grown = c .before .before .before .before .before .before .before .before .before .before .before .before .append-all in
-    omega (arith, c .before .before .before .before .before .collect .ensures .count, c .before .before .before .before .before .collect .kept .0, collect-room (s .both) (s .sign .0) (s .a .now) (s .b .now) (length (s .work .now)) (length (s .out .now)) (c .before .before .before .before .before .before .before .before .before .before .before .before .before .before .before .before .before .before .before .open-operands .result) (c .before .before .before .before .before .before .before .before .before .before .before .before .before .before .before .before .before .before .before .open-operands .ensures) (c .before .before .before .before .before .before .before .before .before .before .before .before .before .before .before .before .before .if1 .left) _ (c .before .before .before .before .before .before .before .before .before .before .before .before .before .before .before .before .weight-refusal .ensures) (c .before .before .before .before .before .before .before .before .before .before .before .before .before .before .if2 .left) (grown .last .1 .1 .0) (grown .kept .1 .1 .0) (grown .result) (grown .ensures) (c .before .before .before .before .before .before .before .before .if3 .left))
+    let at-collect = c .before .before .before .before .before in
+    let at-if3 = at-collect .before .before .before in
+    let at-append-all = at-if3 .before .before .before .before in
+    let at-if2 = at-append-all .before .before in
+    let at-weight-refusal = at-if2 .before .before in
+    let at-if1 = at-weight-refusal .before in
+    let at-open-operands = at-if1 .before .before in
+    let start = at-open-operands .before .before .before .before .before in
+    let s = start .args in
+    let grown = at-append-all .append-all in
+    omega (
+      arith,
+      at-collect .collect .ensures .count,
+      at-collect .collect .kept .0,
+      collect-room (s .both) (s .sign .0) (s .a .now) (s .b .now) (length (s .work .now))
+          (length (s .out .now)) (at-open-operands .open-operands .result) (at-open-operands .open-operands .ensures) (at-if1 .if1 .left) _
+          (at-weight-refusal .weight-refusal .ensures) (at-if2 .if2 .left) (grown .last .1 .1 .0) (grown .kept .1 .1 .0) (grown .result) (grown .ensures) (at-if3 .if3 .left),
+    )
 
 same-length-5 : tie.Need-same-length-5
 same-length-5 c = search needs
@@ -75,9 +138,20 @@ same-length-6 c = search needs
 
 returns-4 : tie.Need-returns-4
 returns-4 c =
-    let s = c .before .before .before .before .before .before .before .before .before .before .before .before .before .before .before .before .before .before .before .before .before .before .before .before .before .before .before .args in
-    let grown = c .before .before .before .before .before .before .before .before .before .before .before .before .before .before .before .append-all in
-    gives-as (delivered (s .both) (s .sign .0) (s .a .now) (s .b .now) (length (s .work .now)) (length (s .out .now)) (c .before .before .before .before .before .before .before .before .before .before .before .before .before .before .before .before .before .before .before .before .before .before .open-operands .result) (c .before .before .before .before .before .before .before .before .before .before .before .before .before .before .before .before .before .before .before .before .before .before .open-operands .ensures) (c .before .before .before .before .before .before .before .before .before .before .before .before .before .before .before .before .before .before .before .before .if1 .left) _ (c .before .before .before .before .before .before .before .before .before .before .before .before .before .before .before .before .before .before .before .weight-refusal .ensures) (c .before .before .before .before .before .before .before .before .before .before .before .before .before .before .before .before .before .if2 .left) (grown .last .1 .1 .0) (grown .kept .1 .1 .0) (grown .result) (grown .ensures) (c .before .before .before .before .before .before .before .before .before .before .before .if3 .left) (c .before .before .before .before .before .before .before .before .collect .last .0) _ (c .before .before .before .before .before .before .before .before .collect .ensures)) (c .before .before .deliver .ensures)
+    let at-deliver = c .before .before in
+    let at-collect = at-deliver .before .before .before .before .before .before in
+    let at-if3 = at-collect .before .before .before in
+    let at-append-all = at-if3 .before .before .before .before in
+    let at-if2 = at-append-all .before .before in
+    let at-weight-refusal = at-if2 .before .before in
+    let at-if1 = at-weight-refusal .before in
+    let at-open-operands = at-if1 .before .before in
+    let start = at-open-operands .before .before .before .before .before in
+    let s = start .args in
+    let grown = at-append-all .append-all in
+    gives-as (delivered (s .both) (s .sign .0) (s .a .now) (s .b .now) (length (s .work .now)) (length (s .out .now)) (at-open-operands .open-operands .result)
+    (at-open-operands .open-operands .ensures) (at-if1 .if1 .left) _ (at-weight-refusal .weight-refusal .ensures) (at-if2 .if2 .left) (grown .last .1 .1 .0)
+    (grown .kept .1 .1 .0) (grown .result) (grown .ensures) (at-if3 .if3 .left) (at-collect .collect .last .0) _ (at-collect .collect .ensures)) (at-deliver .deliver .ensures)
 
 pub produce-spec : {M : Type 1} → statement M
 produce-spec =

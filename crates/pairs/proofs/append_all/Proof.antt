@@ -16,7 +16,9 @@ use Rattle.pairs.proofs.append_all.Statement.{statement}
 use Rattle.pairs.proofs.append_all.Tie as tie
 
 abbrev Inv-loop : tie.InvT-loop
-Inv-loop both sign work₀ a na b nb at₀ i₀ work at i = (i ≤ na) × Progress (allRows both (sign .0) (termsIn a na) (termsIn b nb)) (allRows both (sign .0) (drop i (termsIn a na)) (termsIn b nb)) work₀ (record { used = 0; held = 0 }) work at
+Inv-loop both sign work₀ a na b nb at₀ i₀ work at i =
+    (i ≤ na) × Progress (allRows both (sign .0) (termsIn a na) (termsIn b nb)) (allRows both (sign .0) (drop i (termsIn a na)) (termsIn b nb)) work₀
+    (record { used = 0; held = 0 }) work at
 
 abbrev μ-loop : tie.MeasureT-loop
 μ-loop both sign work₀ a na b nb at₀ i₀ work at i = na - i
@@ -30,22 +32,30 @@ read-term-requires c κs = search needs
 append-with-requires : tie.Need-append-with-requires Inv-loop μ-loop
 append-with-requires c κs =
     let s = c .before .before .before .before .before .before .before in
-    let v = c .before .before .before .loop in
-    (v .inv .1 .room, s .pre .1, one-light (termsIn (s .args .a .now) (s .args .na)) (weight (termsIn (s .args .b .now) (s .args .nb))) (v .i) _ (c .before .read-term .ensures) (s .pre .2))
+    let v = c .before .before .before .loop in (
+      v .inv .1 .room,
+      s .pre .1,
+      one-light (termsIn (s .args .a .now) (s .args .na)) (weight (termsIn (s .args .b .now) (s .args .nb))) (v .i) _
+          (c .before .read-term .ensures) (s .pre .2),
+    )
 
 same-length : tie.Need-same-length Inv-loop μ-loop
 same-length c =
-    let s = c .before .before .before .before .before .before .before .before .before .before .before .before in
-    let v = c .before .before .before .before .before .before .before .before .loop in
-    let step = c .before .before .before .before .append-with in
+    let at-append-with = c .before .before .before .before in
+    let at-loop = at-append-with .before .before .before .before in
+    let v = at-loop .loop in
+    let step = at-append-with .append-with in
     step .kept .1 .1 .0 ∙ v .inv .1 .len
 
 returns : tie.Need-returns Inv-loop μ-loop
 returns c =
-    let s = c .before .before .before .before .before .before .before .before .before .before .before .before in
-    let v = c .before .before .before .before .before .before .before .before .loop in
-    let step = c .before .before .before .before .append-with in
-    let got = c .before .before .before .before .before .before .read-term in
+    let at-append-with = c .before .before .before .before in
+    let at-read-term = at-append-with .before .before in
+    let at-loop = at-read-term .before .before in
+    let s = at-loop .before .before .before .before in
+    let v = at-loop .loop in
+    let step = at-append-with .append-with in
+    let got = at-read-term .read-term in
     let with-b : Term → List Term = λ t. rowsWith (s .args .both) (s .args .sign .0) t (termsIn (s .args .b .now) (s .args .nb)) in
     let next = by-front _++_ [] with-b (got .ensures) in
     from-nothing _ (s .args .work .now) _ _
@@ -60,13 +70,17 @@ loop-less c = search needs
 
 loop-again : tie.Need-loop-again Inv-loop μ-loop
 loop-again c =
-    let s = c .before .before .before .before .before .before .before .before .before .before .before .before in
-    let v = c .before .before .before .before .before .before .before .before .loop in
-    let step = c .before .before .before .before .append-with in
-    let got = c .before .before .before .before .before .before .read-term in
+    let at-append-with = c .before .before .before .before in
+    let at-read-term = at-append-with .before .before in
+    let at-loop-test = at-read-term .before in
+    let at-loop = at-loop-test .before in
+    let s = at-loop .before .before .before .before in
+    let v = at-loop .loop in
+    let step = at-append-with .append-with in
+    let got = at-read-term .read-term in
     let with-b : Term → List Term = λ t. rowsWith (s .args .both) (s .args .sign .0) t (termsIn (s .args .b .now) (s .args .nb)) in
     let next = by-front _++_ [] with-b (got .ensures) in (
-      omega (arith, c .before .before .before .before .before .before .before .loop-test),
+      omega (arith, at-loop-test .loop-test),
       progress-goes _ _ (s .args .work .now) _ (v .work) (v .at) (v .inv .1) (with-b (got .result)) _ next
           (step .last .1 .1 .0) (step .result) (step .kept .1 .1 .0) (step .ensures) (c .if1 .left),
     )
@@ -79,7 +93,9 @@ returns-2 c =
     let s = c .before .before .before .before .before in
     let v = c .before .loop in
     from-nothing _ (s .args .work .now) _ _
-    (progress-ends _ _ (s .args .work .now) _ (v .work) (v .at) (v .inv .1) (by-nothing _++_ [] (λ (t : Term). rowsWith (s .args .both) (s .args .sign .0) t (termsIn (s .args .b .now) (s .args .nb))) (none-left (s .args .a .now) (s .args .na) (v .i) (omega arith))))
+    (progress-ends _ _ (s .args .work .now) _ (v .work) (v .at) (v .inv .1)
+    (by-nothing _++_ [] (λ (t : Term). rowsWith (s .args .both) (s .args .sign .0) t (termsIn (s .args .b .now) (s .args .nb)))
+    (none-left (s .args .a .now) (s .args .na) (v .i) (omega arith))))
 
 pub append-all-spec : {M : Type 1} → statement M
 append-all-spec =

@@ -34,10 +34,14 @@ first k =
 
 -- and once the second's are, the last row of the first in hand
 abbrev once : tie.After-append3 → tie.After-append
-once j = j .before .before .before .before .before .before .before .before .before .before .before .before .before .before
+once j =
+    let further = j .before .before .before .before .before .before .before in
+    let earlier = further .before .before .before .before .before .before .before in
+    earlier
 
 second : (j : tie.After-append3)
-    → Appended (in-reverse (start (once j))) (once j .append .last .0) (record { used = once j .append .result .used - 24; held = once j .append .result .held }) (j .append3 .last .0) (j .append3 .result)
+    → Appended (in-reverse (start (once j))) (once j .append .last .0) (record { used = once j .append .result .used - 24; held = once j .append .result .held })
+    (j .append3 .last .0) (j .append3 .result)
 second j =
     let s = start (once j) in
     appended-as (s .args .u) (s .args .t) (s .args .swapped) _ (j .before .helper-of3 .ensures) (s .fits .swapped) (j .append3 .ensures)
@@ -59,43 +63,61 @@ helper-of-requires-2 c κs = search needs
 
 append-requires-2 : tie.Need-append-requires-2
 append-requires-2 c κs =
-    let k = c .before .before .before .before .before .before .before .before .before in
+    let at-if1 = c .before .before .before .before .before in
+    let k = at-if1 .before .before .before .before in
     let s = start k in
-    (product-room (first k) (c .before .before .before .before .before .if1 .left), rw (toZ-ofZ (s .fits .swapped)) (s .pre .2))
+    (product-room (first k) (at-if1 .if1 .left), rw (toZ-ofZ (s .fits .swapped)) (s .pre .2))
 
 same-length-2 : tie.Need-same-length-2
 same-length-2 c = search needs
 
 returns-2 : tie.Need-returns-2
 returns-2 c =
-    let k = c .before .before .before .before .before .before .before .before .before .before .before .before in
+    let at-append2 = c .before .before in
+    let at-helper-of2 = at-append2 .before in
+    let at-if1 = at-helper-of2 .before .before .before .before .before in
+    let k = at-if1 .before .before .before .before in
     let s = start k in
-    let two = c .before .before .append2 in
-    let few = c .before .before .before .before .before .before .before .before .if1 .left in
+    let two = at-append2 .append2 in
+    let few = at-if1 .if1 .left in
     let other : Product (in-reverse s) (k .append .last .0) (k .append .result) (two .last .0) (two .result) = record {
       ready = product-room (first k) few;
       len = two .kept .0;
-      is = appended-as (s .args .u) (s .args .t) (s .args .swapped) _ (c .before .before .before .helper-of2 .ensures) (s .fits .swapped) (two .ensures);
+      is = appended-as (s .args .u) (s .args .t) (s .args .swapped) _ (at-helper-of2 .helper-of2 .ensures) (s .fits .swapped) (two .ensures);
     } in
     adds-then (in-order s) (in-reverse s) (product-adds (first k)) few (product-adds other)
 
 sub-get-row : tie.Need-sub-get-row
-sub-get-row c = last-row (first (c .before .before .before .before .before .before .before .before .before)) (c .before .before .before .before .before .if1 .left) (c .before .before .if2 .left)
+sub-get-row c =
+    let at-if2 = c .before .before in
+    let at-if1 = at-if2 .before .before .before in
+    let earlier = at-if1 .before .before .before .before in
+    last-row (first (earlier)) (at-if1 .if1 .left) (at-if2 .if2 .left)
 
 get-row-requires : tie.Need-get-row-requires
-get-row-requires c κs = last-fits (first (c .before .before .before .before .before .before .before .before .before)) (c .before .before .before .before .before .if1 .left) (c .before .before .if2 .left)
+get-row-requires c κs =
+    let at-if2 = c .before .before in
+    let at-if1 = at-if2 .before .before .before in
+    let earlier = at-if1 .before .before .before .before in
+    last-fits (first (earlier)) (at-if1 .if1 .left) (at-if2 .if2 .left)
 
 sub-if3 : tie.Need-sub-if3
-sub-if3 c = last-row (first (c .before .before .before .before .before .before .before .before .before .before .before)) (c .before .before .before .before .before .before .before .if1 .left) (c .before .before .before .before .if2 .left)
+sub-if3 c =
+    let at-if2 = c .before .before .before .before in
+    let at-if1 = at-if2 .before .before .before in
+    let earlier = at-if1 .before .before .before .before in
+    last-row (first (earlier)) (at-if1 .if1 .left) (at-if2 .if2 .left)
 
 helper-of-requires-3 : tie.Need-helper-of-requires-3
 helper-of-requires-3 c κs = search needs
 
 append-requires-3 : tie.Need-append-requires-3
 append-requires-3 c κs =
-    let k = c .before .before .before .before .before .before .before .before .before .before .before .before .before in
+    let at-if2 = c .before .before .before .before .before .before in
+    let at-if1 = at-if2 .before .before .before in
+    let k = at-if1 .before .before .before .before in
     let s = start k in
-    (rest-room (first k) (c .before .before .before .before .before .before .before .before .before .if1 .left) (c .before .before .before .before .before .before .if2 .left), rw (toZ-ofZ (s .fits .swapped)) (s .pre .2))
+    (rest-room (first k) (at-if1 .if1 .left) (at-if2 .if2 .left), rw (toZ-ofZ (s .fits .swapped)) (s .pre .2))
 
 same-length-3 : tie.Need-same-length-3
 same-length-3 c = search needs
@@ -103,21 +125,39 @@ same-length-3 c = search needs
 returns-3 : tie.Need-returns-3
 returns-3 c =
     let j = c .before .before .before .before in
-    second-over (first (once j)) (j .before .before .before .before .before .before .before .before .before .before .if1 .left) (j .before .before .before .before .before .before .before .if2 .left) (in-reverse (start (once j))) (j .append3 .kept .0) (second j) (c .if3 .taken)
+    let at-if2 = j .before .before .before .before .before .before .before in
+    let at-if1 = at-if2 .before .before .before in
+    second-over (first (once j)) (at-if1 .if1 .left) (at-if2 .if2 .left) (in-reverse (start (once j))) (j .append3 .kept .0) (second j) (c .if3 .taken)
 
 settle-requires : tie.Need-settle-requires
 settle-requires c κs =
-    let j = c .before .before .before .before .before in
-    (settle-room (first (once j)) (j .before .before .before .before .before .before .before .before .before .before .if1 .left) (j .before .before .before .before .before .before .before .if2 .left) (in-reverse (start (once j))) (j .append3 .kept .0) (second j) (c .before .if3 .left), j .before .before .before .before .get-row .ensures .1)
+    let at-if3 = c .before in
+    let j = at-if3 .before .before .before .before in
+    let at-get-row = j .before .before .before .before in
+    let at-if2 = at-get-row .before .before .before in
+    let at-if1 = at-if2 .before .before .before in (
+      settle-room (first (once j)) (at-if1 .if1 .left) (at-if2 .if2 .left) (in-reverse (start (once j))) (j .append3 .kept .0) (second j)
+          (at-if3 .if3 .left),
+      at-get-row .get-row .ensures .1,
+    )
 
 same-length-4 : tie.Need-same-length-4
-same-length-4 c = let j = c .before .before .before .before .before .before .before .before in c .before .before .settle .kept .0 ∙ j .append3 .kept .0 ∙ once j .append .kept .0
+same-length-4 c =
+    let at-settle = c .before .before in
+    let earlier = at-settle .before .before .before .before .before .before in
+    let j = earlier in at-settle .settle .kept .0 ∙ j .append3 .kept .0 ∙ once j .append .kept .0
 
 returns-4 : tie.Need-returns-4
 returns-4 c =
-    let j = c .before .before .before .before .before .before .before .before in
-    let settled = c .before .before .settle in
-    settled-adds (first (once j)) (j .before .before .before .before .before .before .before .before .before .before .if1 .left) (j .before .before .before .before .before .before .before .if2 .left) (in-reverse (start (once j))) (j .append3 .kept .0) (second j) (c .before .before .before .before .if3 .left) _ (j .before .before .before .before .get-row .ensures .0) _ _ (settled .kept .0) (settled .ensures)
+    let at-settle = c .before .before in
+    let at-if3 = at-settle .before .before in
+    let j = at-if3 .before .before .before .before in
+    let at-get-row = j .before .before .before .before in
+    let at-if2 = at-get-row .before .before .before in
+    let at-if1 = at-if2 .before .before .before in
+    let settled = at-settle .settle in
+    settled-adds (first (once j)) (at-if1 .if1 .left) (at-if2 .if2 .left) (in-reverse (start (once j))) (j .append3 .kept .0) (second j) (at-if3 .if3 .left) _
+    (at-get-row .get-row .ensures .0) _ _ (settled .kept .0) (settled .ensures)
 
 pub append-both-spec : {M : Type 1} → statement M
 append-both-spec =

@@ -33,18 +33,23 @@ append-pair-requires c κs =
 
 same-length : tie.Need-same-length Inv-loop μ-loop
 same-length c =
-    let s = c .before .before .before .before .before .before .before .before .before .before .before in
-    let v = c .before .before .before .before .before .before .before .before .loop in
-    let step = c .before .before .before .before .append-pair in
+    let at-append-pair = c .before .before .before .before in
+    let at-loop = at-append-pair .before .before .before .before in
+    let v = at-loop .loop in
+    let step = at-append-pair .append-pair in
     step .kept .1 .1 .0 ∙ v .inv .1 .len
 
 returns : tie.Need-returns Inv-loop μ-loop
 returns c =
-    let s = c .before .before .before .before .before .before .before .before .before .before .before in
-    let v = c .before .before .before .before .before .before .before .before .loop in
-    let step = c .before .before .before .before .append-pair in
-    let next = by-front _++_ [] (pairRows (s .args .both) (s .args .sign .0) (s .args .t)) (c .before .before .before .before .before .before .read-term .ensures) in
-    progress-over _ _ (s .args .work .now) (s .args .s) (v .work) (v .at) (v .inv .1) _ _ next (step .last .1 .1 .0) (step .result) (step .kept .1 .1 .0) (step .ensures) (c .if1 .taken)
+    let at-append-pair = c .before .before .before .before in
+    let at-read-term = at-append-pair .before .before in
+    let at-loop = at-read-term .before .before in
+    let s = at-loop .before .before .before in
+    let v = at-loop .loop in
+    let step = at-append-pair .append-pair in
+    let next = by-front _++_ [] (pairRows (s .args .both) (s .args .sign .0) (s .args .t)) (at-read-term .read-term .ensures) in
+    progress-over _ _ (s .args .work .now) (s .args .s) (v .work) (v .at) (v .inv .1) _ _ next (step .last .1 .1 .0) (step .result) (step .kept .1 .1 .0) (step .ensures)
+    (c .if1 .taken)
 
 add-j : tie.Need-add-j Inv-loop μ-loop
 add-j c = search needs
@@ -54,12 +59,17 @@ loop-less c = search needs
 
 loop-again : tie.Need-loop-again Inv-loop μ-loop
 loop-again c =
-    let s = c .before .before .before .before .before .before .before .before .before .before .before in
-    let v = c .before .before .before .before .before .before .before .before .loop in
-    let step = c .before .before .before .before .append-pair in
-    let next = by-front _++_ [] (pairRows (s .args .both) (s .args .sign .0) (s .args .t)) (c .before .before .before .before .before .before .read-term .ensures) in (
-      omega (arith, c .before .before .before .before .before .before .before .loop-test),
-      progress-goes _ _ (s .args .work .now) (s .args .s) (v .work) (v .at) (v .inv .1) _ _ next (step .last .1 .1 .0) (step .result) (step .kept .1 .1 .0) (step .ensures) (c .if1 .left),
+    let at-append-pair = c .before .before .before .before in
+    let at-read-term = at-append-pair .before .before in
+    let at-loop-test = at-read-term .before in
+    let at-loop = at-loop-test .before in
+    let s = at-loop .before .before .before in
+    let v = at-loop .loop in
+    let step = at-append-pair .append-pair in
+    let next = by-front _++_ [] (pairRows (s .args .both) (s .args .sign .0) (s .args .t)) (at-read-term .read-term .ensures) in (
+      omega (arith, at-loop-test .loop-test),
+      progress-goes _ _ (s .args .work .now) (s .args .s) (v .work) (v .at) (v .inv .1) _ _ next (step .last .1 .1 .0) (step .result) (step .kept .1 .1 .0) (step .ensures)
+          (c .if1 .left),
     )
 
 same-length-2 : tie.Need-same-length-2 Inv-loop μ-loop
@@ -69,7 +79,8 @@ returns-2 : tie.Need-returns-2 Inv-loop μ-loop
 returns-2 c =
     let s = c .before .before .before .before in
     let v = c .before .loop in
-    progress-ends _ _ (s .args .work .now) (s .args .s) (v .work) (v .at) (v .inv .1) (by-nothing _++_ [] (pairRows (s .args .both) (s .args .sign .0) (s .args .t)) (none-left (s .args .b .now) (s .args .n) (v .j) (omega arith)))
+    progress-ends _ _ (s .args .work .now) (s .args .s) (v .work) (v .at) (v .inv .1)
+    (by-nothing _++_ [] (pairRows (s .args .both) (s .args .sign .0) (s .args .t)) (none-left (s .args .b .now) (s .args .n) (v .j) (omega arith)))
 
 pub append-with-spec : {M : Type 1} → statement M
 append-with-spec =

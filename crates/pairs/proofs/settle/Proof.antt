@@ -15,8 +15,12 @@ same-length c = search needs
 
 returns : tie.Need-returns
 returns c =
-    let s = c .before .before .before .before .before .before .before .before .before in
-    settled-cancelled (s .args .row) (s .args .work .now) (s .args .s) (c .before .before .before .before .before .before .if1 .taken) _ (c .before .before .before .get-row .ensures .0) (c .before .before .cancels .ensures (c .before .if2 .taken))
+    let at-if2 = c .before in
+    let at-cancels = at-if2 .before in
+    let at-get-row = at-cancels .before in
+    let at-if1 = at-get-row .before .before .before in
+    let s = at-if1 .before .before .before in
+    settled-cancelled (s .args .row) (s .args .work .now) (s .args .s) (at-if1 .if1 .taken) _ (at-get-row .get-row .ensures .0) (at-cancels .cancels .ensures (at-if2 .if2 .taken))
 
 put-row-requires : tie.Need-put-row-requires
 put-row-requires c κs = search needs
@@ -29,7 +33,9 @@ same-length-2 c = search needs
 
 returns-2 : tie.Need-returns-2
 returns-2 c =
-    let s = c .before .before .before .before .before .before .before .before in settled-kept (s .args .row) (s .args .work .now) (s .args .s) (s .pre .0) (s .pre .1) _ (c .before .before .before .put-row .ensures)
+    let at-put-row = c .before .before .before in
+    let earlier = at-put-row .before .before .before .before .before in
+    let s = earlier in settled-kept (s .args .row) (s .args .work .now) (s .args .s) (s .pre .0) (s .pre .1) _ (at-put-row .put-row .ensures)
 
 pub settle-spec : {M : Type 1} → statement M
 settle-spec =

@@ -76,13 +76,16 @@ do-branch-do-branch-requires t c κs =
 
 do-branch-do-branch-requires-2 : (t : ℕ) → do-branch-lts.Need-do-branch-requires-2 (claims t) (do-branch-at t) do-branch.Post
 do-branch-do-branch-requires-2 t c κs =
-    let s = c .before .before .before .before .before .before .before .before in
-    let some : 0 < s .args .left = omega (arith, c .before .before .before .before .before .before .if1 .left) in
-    let first = c .before .before .before .do-branch in (
+    let at-do-branch = c .before .before .before in
+    let at-keep = at-do-branch .before .before in
+    let at-if1 = at-keep .before in
+    let s = at-if1 .before .before in
+    let some : 0 < s .args .left = omega (arith, at-if1 .if1 .left) in
+    let first = at-do-branch .do-branch in (
       omega (arith, s .pre .0, less-lt (s .args .left) some),
       (
         omega (arith, s .pre .1 .0, first .ensures .0, first .kept .0, twice-left (s .args .left) some (s .fits .left .fits)),
-        c .before .before .before .before .before .keep .ensures .1,
+        at-keep .keep .ensures .1,
       ),
     )
 
@@ -91,11 +94,15 @@ do-branch-same-length-2 t c = search needs
 
 do-branch-returns-2 : (t : ℕ) → do-branch-lts.Need-returns-2 (claims t) (do-branch-at t) do-branch.Post
 do-branch-returns-2 t c =
-    let s = c .before .before .before .before .before .before .before .before .before .before .before in
-    let some : 0 < s .args .left = omega (arith, c .before .before .before .before .before .before .before .before .before .if1 .left) in
-    let high = c .before .before .before .before .before .before .before .before .keep .ensures .0 in
-    let first = c .before .before .before .before .before .before .do-branch .ensures in
-    let second = c .before .before .do-branch2 .ensures in (
+    let at-do-branch2 = c .before .before in
+    let at-do-branch = at-do-branch2 .before .before .before .before in
+    let at-keep = at-do-branch .before .before in
+    let at-if1 = at-keep .before in
+    let s = at-if1 .before .before in
+    let some : 0 < s .args .left = omega (arith, at-if1 .if1 .left) in
+    let high = at-keep .keep .ensures .0 in
+    let first = at-do-branch .do-branch .ensures in
+    let second = at-do-branch2 .do-branch2 .ensures in (
       omega (arith, first .0, second .0, twice-left (s .args .left) some (s .fits .left .fits)),
       cc (walk-both (s .args .left) (s .args .row) some (s .fits .left .fits) (s .args .out .now) (s .args .at) (omega (arith, s .pre .1 .0)), first .0, first .1, second .1, high),
     )

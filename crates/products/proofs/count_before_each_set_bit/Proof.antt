@@ -46,7 +46,8 @@ loop-again c =
 returns : tie.Need-returns Inv-loop μ-loop
 returns c =
     let s = c .before .before in
-    let all : c .before .loop .count ≡ exchanges 64 (bit (s .args .word)) (bit (s .args .at)) = omega (arith, exchanges-end 64 (bit (s .args .word)) (c .before .loop .rest) (c .loop-test .left)) in
+    let all : c .before .loop .count ≡ exchanges 64 (bit (s .args .word)) (bit (s .args .at)) =
+    omega (arith, exchanges-end 64 (bit (s .args .word)) (c .before .loop .rest) (c .loop-test .left)) in
     (all, omega (arith, exchanges-le 64 64 (bit (s .args .word)) (bit (s .args .at)) (le-refl 64)))
 
 pub count-before-each-set-bit-spec : {M : Type 1} → statement M

@@ -32,17 +32,23 @@ signed-coeff-requires c κs = search needs
 
 returns : tie.Need-returns
 returns c =
-    let s = c .before .before .before .before .before .before .before .before in
-    let after = c .before .before .before .before .before .before .before .set-bits-after in
-    let before = c .before .before .before .before .before .before .set-bits-before in
-    let bits = c .before .before .before .before .before .sign-of-bits in
-    let sign = c .before .before .before .before .mul in
-    let signed-coeff = c .before .before .signed-coeff in
+    let at-signed-coeff = c .before .before in
+    let at-mul = at-signed-coeff .before .before in
+    let at-sign-of-bits = at-mul .before in
+    let at-set-bits-before = at-sign-of-bits .before in
+    let at-set-bits-after = at-set-bits-before .before in
+    let s = at-set-bits-after .before in
+    let after = at-set-bits-after .set-bits-after in
+    let before = at-set-bits-before .set-bits-before in
+    let bits = at-sign-of-bits .sign-of-bits in
+    let sign = at-mul .mul in
+    let signed-coeff = at-signed-coeff .signed-coeff in
     let small : SFits w64 (signed-coeff .result) = record { sfits = signed-coeff .ok } in
     let same : toZ w64 (ofZ w64 (signed-coeff .result)) ≡ (keeping (s .args .mode) (s .args .row)) .coeff =
     toZ-ofZ small ∙ signed-coeff .ensures
     ∙ ap₂ signed
-    (sign .ensures ∙ ap (λ (b : Bool). true ⊕ b) (bits .ensures ∙ kept-sign (s .args .row .cre) (s .args .row .ann) (s .args .mode) (after .result) (before .result) (after .ensures) (before .ensures)))
+    (sign .ensures ∙ ap (λ (b : Bool). true ⊕ b)
+    (bits .ensures ∙ kept-sign (s .args .row .cre) (s .args .row .ann) (s .args .mode) (after .result) (before .result) (after .ensures) (before .ensures)))
     (toZ-ofZ (abs-fits (s .args .row .coeff) (s .pre .1))) in
     (term-of refl refl same, rw (same, abs-signed) (s .pre .1))
 

@@ -48,7 +48,9 @@ returns c =
     let none = c .before .before .before .before .if1 .taken in (
       one-ends (s .args .helper) _ (s .fits .left .fits) (s .args .coeff) _ (length (s .args .out .now)) (s .pre .0) none,
       c .before .before .put-row .ensures
-          ∙ ap (put (s .args .out .now) _) (one-is (s .args .helper) _ (s .fits .left .fits) (s .args .coeff) _ (length (s .args .out .now)) (s .pre .0) none _ (lowest (s .args .helper) (s .fits .coeff) _ (c .before .before .before .before .before .lowest-row .ensures .0))),
+          ∙ ap (put (s .args .out .now) _)
+          (one-is (s .args .helper) _ (s .fits .left .fits) (s .args .coeff) _ (length (s .args .out .now)) (s .pre .0) none _
+          (lowest (s .args .helper) (s .fits .coeff) _ (c .before .before .before .before .before .lowest-row .ensures .0))),
     )
 
 do-branch-requires : tie.Need-do-branch-requires

@@ -16,7 +16,8 @@ negated-requires c κs = search needs
 returns : tie.Need-returns
 returns c =
     let small : SFits w64 (c .negated .result) = record { sfits = c .negated .ok } in
-    toZ-ofZ small ∙ c .negated .ensures ∙ ap negℤ (toZ-ofZ (c .before .before .fits .coeff)) ∙ sym (ap (λ (b : Bool). signed b (c .before .before .args .coeff)) (c .before .if1 .taken))
+    toZ-ofZ small ∙ c .negated .ensures ∙ ap negℤ (toZ-ofZ (c .before .before .fits .coeff)) ∙ sym
+    (ap (λ (b : Bool). signed b (c .before .before .args .coeff)) (c .before .if1 .taken))
 
 returns-2 : tie.Need-returns-2
 returns-2 c = toZ-ofZ (c .before .fits .coeff) ∙ sym (ap (λ (b : Bool). signed b (c .before .args .coeff)) (c .if1 .left))

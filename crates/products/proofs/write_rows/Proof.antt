@@ -23,11 +23,13 @@ same-length c = search needs
 
 returns : tie.Need-returns
 returns c =
-    let s = c .before .before .before .before .before .before .before .before .before in
-    let put = c .before .before .before .before .before .before .put-rows in
+    let at-wipe-from = c .before .before in
+    let at-put-rows = at-wipe-from .before .before .before .before in
+    let s = at-put-rows .before .before .before in
+    let put = at-put-rows .put-rows in
     let h = s .args .helper in
     gives-rows (h .«l_cre») (h .«l_ann») (h .«r_cre») (h .«r_ann») (s .args .out .now) (s .pre .full) (rows-room h _ (s .fits .left .fits) (length (s .args .out .now)) (s .pre))
-    (put .result) _ (put .last .0) _ (put .ensures .0) (put .ensures .1) (put .kept .0) refl (c .before .before .wipe-from .ensures)
+    (put .result) _ (put .last .0) _ (put .ensures .0) (put .ensures .1) (put .kept .0) refl (at-wipe-from .wipe-from .ensures)
 
 pub write-rows-spec : {M : Type 1} → statement M
 write-rows-spec = tie.close (tie.spec put-rows-requires wipe-from-requires same-length returns)

@@ -8,7 +8,9 @@ use borrow.Author.Needs.{needs}
 use Rattle.record.proofs.block_bounds.Statement.{statement}
 use Rattle.record.proofs.block_bounds.Tie as tie
 
-bounded : (c : tie.Else2) → (c .before .before .before .before .before .check .result .terms ≤ 2048) × (c .before .before .count-below .result ≤ c .before .count-up-to .result) × (c .before .count-up-to .result ≤ c .before .before .before .before .before .check .result .terms)
+bounded : (c : tie.Else2)
+    → (c .before .before .before .before .before .check .result .terms ≤ 2048) × (c .before .before .count-below .result ≤ c .before .count-up-to .result) ×
+    (c .before .count-up-to .result ≤ c .before .before .before .before .before .check .result .terms)
 bounded c =
     block-bounded _ _ _ (accepted 1 _ _ (c .before .before .before .before .before .check .ensures) (c .before .before .before .if1 .left)) _ _
     (c .before .before .count-below .ensures) (c .before .count-up-to .ensures)
@@ -29,7 +31,8 @@ returns-2 : tie.Need-returns-2
 returns-2 c =
     let at-if1 = c .before .before .before in
     let at-check = at-if1 .before .before in
-    stretch-none _ _ _ (c .if2 .taken) ∙ block-found _ _ _ (accepted 1 _ _ (at-check .check .ensures) (at-if1 .if1 .left)) _ _ (c .before .before .count-below .ensures) (c .before .count-up-to .ensures)
+    stretch-none _ _ _ (c .if2 .taken) ∙ block-found _ _ _ (accepted 1 _ _ (at-check .check .ensures) (at-if1 .if1 .left)) _ _ (c .before .before .count-below .ensures)
+    (c .before .count-up-to .ensures)
 
 mul-t8 : tie.Need-mul-t8
 mul-t8 c = omega (arith, bounded c)
@@ -53,7 +56,8 @@ returns-3 : tie.Need-returns-3
 returns-3 c =
     let at-if1 = c .before .before .before in
     let at-check = at-if1 .before .before in
-    stretch-some _ _ _ (c .if2 .left) ∙ block-found _ _ _ (accepted 1 _ _ (at-check .check .ensures) (at-if1 .if1 .left)) _ _ (c .before .before .count-below .ensures) (c .before .count-up-to .ensures)
+    stretch-some _ _ _ (c .if2 .left) ∙ block-found _ _ _ (accepted 1 _ _ (at-check .check .ensures) (at-if1 .if1 .left)) _ _ (c .before .before .count-below .ensures)
+    (c .before .count-up-to .ensures)
 
 pub block-bounds-spec : {M : Type 1} → statement M
 block-bounds-spec =

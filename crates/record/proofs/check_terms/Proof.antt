@@ -44,7 +44,8 @@ returns c =
     let judge : Bool → Refusal = λ up. termRefusal (at-start .args .operand) (at-start .args .m) (at-loop .loop .i) up (at-read-term .read-term .result) in
     let judged = _∙_ {b = judge (at-follows .follows .result)} (at-term-refusal .term-refusal .ensures) (ap judge (at-follows .follows .ensures)) in
     c .refused .ensures
-    ∙ term-refused _ _ _ _ (at-start .pre .0) (at-start .pre .1) (at-start .pre .2) _ (refuses _ _ _ _ _ _ _ (at-loop .loop .inv .1) _ (at-read-term .read-term .ensures) _ judged (c .before .if1 .taken)) (c .before .if1 .taken)
+    ∙ term-refused _ _ _ _ (at-start .pre .0) (at-start .pre .1) (at-start .pre .2) _
+    (refuses _ _ _ _ _ _ _ (at-loop .loop .inv .1) _ (at-read-term .read-term .ensures) _ judged (c .before .if1 .taken)) (c .before .if1 .taken)
 
 size-requires : tie.Need-size-requires Inv-loop μ-loop
 size-requires c κs = search needs
@@ -66,8 +67,11 @@ loop-again c =
     let at-loop = at-read-term .before .before in
     let at-start = at-loop .before .before in
     let judge : Bool → Refusal = λ up. termRefusal (at-start .args .operand) (at-start .args .m) (at-loop .loop .i) up (at-read-term .read-term .result) in
-    let judged = _∙_ {b = judge (at-follows .follows .result)} (at-term-refusal .term-refusal .ensures) (ap judge (at-follows .follows .ensures)) in
-    (search needs, rw (c .heavier .ensures) (goes _ _ _ _ _ _ _ (at-loop .loop .inv .1) _ (at-read-term .read-term .ensures) _ judged (c .before .before .if1 .left) _ (c .before .size .ensures .0)))
+    let judged = _∙_ {b = judge (at-follows .follows .result)} (at-term-refusal .term-refusal .ensures) (ap judge (at-follows .follows .ensures)) in (
+      search needs,
+      rw (c .heavier .ensures)
+          (goes _ _ _ _ _ _ _ (at-loop .loop .inv .1) _ (at-read-term .read-term .ensures) _ judged (c .before .before .if1 .left) _ (c .before .size .ensures .0)),
+    )
 
 refused-requires-2 : tie.Need-refused-requires-2 Inv-loop μ-loop
 refused-requires-2 c κs = search needs
@@ -78,7 +82,8 @@ returns-2 c =
     let at-start = at-loop .before .before in
     let done = none-left (at-start .args .s .now) _ _ (c .before .before .loop-test .left) in
     c .refused2 .ensures
-    ∙ heavy-refused _ _ _ _ (at-start .pre .0) (at-start .pre .1) (at-start .pre .2) (none-refused _ _ _ _ _ _ _ (at-loop .loop .inv .1) done) (too-heavy _ _ _ _ _ _ _ (at-loop .loop .inv .1) done (c .before .if2 .taken))
+    ∙ heavy-refused _ _ _ _ (at-start .pre .0) (at-start .pre .1) (at-start .pre .2) (none-refused _ _ _ _ _ _ _ (at-loop .loop .inv .1) done)
+    (too-heavy _ _ _ _ _ _ _ (at-loop .loop .inv .1) done (c .before .if2 .taken))
 
 returns-3 : tie.Need-returns-3 Inv-loop μ-loop
 returns-3 c =

@@ -38,15 +38,25 @@ loop-less : tie.Need-loop-less Inv-loop μ-loop
 loop-less c = search needs
 
 loop-again : tie.Need-loop-again Inv-loop μ-loop
-loop-again c =
-    (omega arith, search needs, halving-rises _ (earlier-downward (c .before .before .before .before .before .before .args .t)) _ (c .before .before .before .before .before .before .pre .1) _ _ _ _ (c .before .before .read-term .ensures) (c .before .before .before .before .loop .inv .2) (sym (c .before .is-before .ensures) ∙ c .if1 .taken))
+loop-again c = (
+  omega arith,
+  search needs,
+  halving-rises _ (earlier-downward (c .before .before .before .before .before .before .args .t)) _
+      (c .before .before .before .before .before .before .pre .1) _ _ _ _ (c .before .before .read-term .ensures) (c .before .before .before .before .loop .inv .2)
+      (sym (c .before .is-before .ensures) ∙ c .if1 .taken),
+)
 
 loop-less-2 : tie.Need-loop-less-2 Inv-loop μ-loop
 loop-less-2 c = search needs
 
 loop-again-2 : tie.Need-loop-again-2 Inv-loop μ-loop
-loop-again-2 c =
-    (omega arith, omega arith, halving-falls _ (earlier-downward (c .before .before .before .before .before .before .args .t)) _ (c .before .before .before .before .before .before .pre .1) _ _ _ _ (c .before .before .read-term .ensures) (c .before .before .before .before .loop .inv .2) (sym (c .before .is-before .ensures) ∙ c .if1 .left))
+loop-again-2 c = (
+  omega arith,
+  omega arith,
+  halving-falls _ (earlier-downward (c .before .before .before .before .before .before .args .t)) _
+      (c .before .before .before .before .before .before .pre .1) _ _ _ _ (c .before .before .read-term .ensures) (c .before .before .before .before .loop .inv .2)
+      (sym (c .before .is-before .ensures) ∙ c .if1 .left),
+)
 
 returns : tie.Need-returns Inv-loop μ-loop
 returns c = halving-ends _ _ _ _ (omega arith) (c .before .loop .inv .2)

@@ -23,7 +23,8 @@ returns c =
     let known = at-header .before .before in
     let s = known .before in
     let wiped = rw (at-length .length-of .ensures) at (c .before .before .wipe-from .ensures) in
-    rw (at-length .length-of .ensures) (finished (s .args .out .now) _ _ (s .args .m) (s .args .n) (s .args .branches) (λ k. known .slice-known .given k .fits) (s .pre .0) (at-header .put-header .ensures) wiped)
+    rw (at-length .length-of .ensures)
+    (finished (s .args .out .now) _ _ (s .args .m) (s .args .n) (s .args .branches) (λ k. known .slice-known .given k .fits) (s .pre .0) (at-header .put-header .ensures) wiped)
 
 pub finish-spec : {M : Type 1} → statement M
 finish-spec = tie.close (tie.spec put-header-requires length-of-requires wipe-from-requires same-length returns)

@@ -40,7 +40,8 @@ returns-3 c =
     let at-half2 = at-from-count .before in
     let at-half = at-half2 .before in
     let s = at-half .before .before .args .s .now in
-    header-decides _ _ (at-from-count .from-count .result) (at-from-count .from-count .ensures ∙ ap spaceOf (at-half .half .ensures .0)) (ap isMade (c .before .before .enum-told .given .1)) (omega arith)
+    header-decides _ _ (at-from-count .from-count .result) (at-from-count .from-count .ensures ∙ ap spaceOf (at-half .half .ensures .0))
+    (ap isMade (c .before .before .enum-told .given .1)) (omega arith)
     (c .header-is .ensures ∙ ap₂ (λ (m n : ℕ). sameNumbers (numbers 4 s 0 8) (fields m n)) (at-half .half .ensures .0) (at-half2 .half2 .ensures .0))
 
 pub good-header-spec : {M : Type 1} → statement M

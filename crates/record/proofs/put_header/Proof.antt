@@ -51,11 +51,18 @@ put-half-requires-8 c κs = search needs
 same-length : tie.Need-same-length
 same-length c = search needs
 
+-- back over the eight stores, which are four states each
+abbrev start : tie.After-slice-known9 → tie.Start
+start c =
+    let six = c .before .before .before .before .before .before .before in
+    let four = six .before .before .before .before .before .before .before in
+    let three = four .before .before .before .before .before .before .before in
+    let one = three .before .before .before .before .before .before .before in
+    one .before .before .before .before .before
+
 returns : tie.Need-returns
 unfolding header putEach
-returns c =
-    let at-start = c .before .before .before .before .before .before .before .before .before .before .before .before .before .before .before .before .before .before .before .before .before .before .before .before .before .before .before .before .before .before .before .before .before in
-    cc (put-each 4 (at-start .args .out .now) 0 (fields (at-start .args .m) (at-start .args .n)) zero-le)
+returns c = cc (put-each 4 (start c .args .out .now) 0 (fields (start c .args .m) (start c .args .n)) zero-le)
 
 pub put-header-spec : {M : Type 1} → statement M
 put-header-spec =

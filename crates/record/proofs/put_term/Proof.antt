@@ -58,7 +58,8 @@ returns : tie.Need-returns
 unfolding putIn
 returns c =
     let told = c .before .before .before .before in
-    let s = told .before .before .before .before .before .before .before .before .before .before .before in
+    let further = told .before .before .before .before .before .before .before in
+    let s = further .before .before .before .before in
     let small : SFits w64 (s .args .t .coeff) = record { sfits = told .struct-told .given .1 .1 .0 .1 } in
     let fit : Fit (s .args .t) = record { ann = search needs; cre = search needs; coeff = small } in
     term-put (s .args .out .now) _ (s .args .n) (s .args .k) (s .args .t) (s .pre .0) (s .pre .1) fit (cc (toZ-ofZ small))

@@ -24,13 +24,15 @@ returns-3 : tie.Need-returns-3
 returns-3 c =
     let at-if2 = c .before .before in
     let at-if1 = at-if2 .before in
-    zero-coefficient _ _ _ _ _ (sym (at-if1 .before .is-inside .ensures) ∙ not-false _ (at-if1 .if1 .left)) (not-false _ (at-if2 .if2 .left)) (sym (c .before .size .ensures .0) ∙ c .if3 .taken)
+    zero-coefficient _ _ _ _ _ (sym (at-if1 .before .is-inside .ensures) ∙ not-false _ (at-if1 .if1 .left)) (not-false _ (at-if2 .if2 .left))
+    (sym (c .before .size .ensures .0) ∙ c .if3 .taken)
 
 returns-4 : tie.Need-returns-4
 returns-4 c =
     let at-if2 = c .before .before in
     let at-if1 = at-if2 .before in
-    right-term _ _ _ _ _ (sym (at-if1 .before .is-inside .ensures) ∙ not-false _ (at-if1 .if1 .left)) (not-false _ (at-if2 .if2 .left)) (λ e. c .if3 .left (c .before .size .ensures .0 ∙ e))
+    right-term _ _ _ _ _ (sym (at-if1 .before .is-inside .ensures) ∙ not-false _ (at-if1 .if1 .left)) (not-false _ (at-if2 .if2 .left))
+    (λ e. c .if3 .left (c .before .size .ensures .0 ∙ e))
 
 pub term-refusal-spec : {M : Type 1} → statement M
 term-refusal-spec =

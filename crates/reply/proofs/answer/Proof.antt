@@ -17,13 +17,26 @@ half-requires c κs = omega (arith, header-there (c .before .before .before .bef
 slice-aggregate-commutator : tie.Need-slice-aggregate-commutator
 slice-aggregate-commutator c =
     let input = c .before .before .before .before .before .before .before .args .input .now in
-    sym (length-take-le (c .before .half .result) input (omega (arith, total-there input (sym (c .before .before .before .holds-first .ensures) ∙ c .before .before .if1 .taken), c .before .half .ensures .0)))
+    sym (length-take-le (c .before .half .result) input
+    (omega (arith, total-there input (sym (c .before .before .before .holds-first .ensures) ∙ c .before .before .if1 .taken), c .before .half .ensures .0)))
 
 sub-commutator : tie.Need-sub-commutator
-sub-commutator c = omega (arith, total-there (c .before .before .before .before .before .before .before .args .input .now) (sym (c .before .before .before .holds-first .ensures) ∙ c .before .before .if1 .taken), c .before .half .ensures .0)
+sub-commutator c =
+    omega (
+      arith,
+      total-there (c .before .before .before .before .before .before .before .args .input .now)
+          (sym (c .before .before .before .holds-first .ensures) ∙ c .before .before .if1 .taken),
+      c .before .half .ensures .0,
+    )
 
 part-commutator-start : tie.Need-part-commutator-start
-part-commutator-start c = omega (arith, total-there (c .before .before .before .before .before .before .before .args .input .now) (sym (c .before .before .before .holds-first .ensures) ∙ c .before .before .if1 .taken), c .before .half .ensures .0)
+part-commutator-start c =
+    omega (
+      arith,
+      total-there (c .before .before .before .before .before .before .before .args .input .now)
+          (sym (c .before .before .before .holds-first .ensures) ∙ c .before .before .if1 .taken),
+      c .before .half .ensures .0,
+    )
 
 part-commutator-end : tie.Need-part-commutator-end
 part-commutator-end c = search needs
@@ -39,8 +52,13 @@ same-length-2 c = search needs
 
 returns : tie.Need-returns
 returns c =
-    let s = c .before .before .before .before .before .before .before .before .before .before .before .before .before .before .before in
-    leaves-as (answer-parts (s .args .input .now) (sym (c .before .before .before .before .before .before .before .before .before .before .before .holds-first .ensures) ∙ c .before .before .before .before .before .before .before .before .before .before .if1 .taken) (length (s .args .work .now)) (length (s .args .out .now)) _ (c .before .before .before .before .before .before .before .before .before .half .ensures .0)) (c .before .before .before .before .commutator .ensures)
+    let at-commutator = c .before .before .before .before in
+    let at-half = at-commutator .before .before .before .before .before in
+    let at-if1 = at-half .before in
+    let at-holds-first = at-if1 .before in
+    let s = at-holds-first .before .before .before .before in
+    leaves-as (answer-parts (s .args .input .now) (sym (at-holds-first .holds-first .ensures) ∙ at-if1 .if1 .taken) (length (s .args .work .now))
+    (length (s .args .out .now)) _ (at-half .half .ensures .0)) (at-commutator .commutator .ensures)
 
 refuse-first-requires : tie.Need-refuse-first-requires
 refuse-first-requires c κs = search needs
@@ -53,8 +71,12 @@ same-length-4 c = search needs
 
 returns-2 : tie.Need-returns-2
 returns-2 c =
-    let s = c .before .before .before .before .before .before .before .before .before .before .before .before in
-    leaves-as (answer-short (s .args .input .now) (sym (c .before .before .before .before .before .before .before .before .holds-first .ensures) ∙ c .before .before .before .before .before .before .before .if1 .left) (length (s .args .work .now)) (length (s .args .out .now))) (c .before .before .before .before .refuse-first .ensures)
+    let at-refuse-first = c .before .before .before .before in
+    let at-if1 = at-refuse-first .before .before .before in
+    let at-holds-first = at-if1 .before in
+    let s = at-holds-first .before .before .before .before in
+    leaves-as (answer-short (s .args .input .now) (sym (at-holds-first .holds-first .ensures) ∙ at-if1 .if1 .left) (length (s .args .work .now))
+    (length (s .args .out .now))) (at-refuse-first .refuse-first .ensures)
 
 pub answer-spec : {M : Type 1} → statement M
 answer-spec =

@@ -36,8 +36,18 @@ put-field-requires-3 c κs =
     let one = twenty-one (s .args .number) 32 (s .fits .number .fits) in
     let two = twenty-one (s .args .operand) 32 (s .fits .operand .fits) in
     let three = twenty-one (s .args .place) 10 (s .fits .place .fits) in
-    omega
-    (arith, s .pre, word .copy .kept .0, first .put-field .kept .0, first .put-field .ensures .ends, second .put-field2 .kept .0, second .put-field2 .ensures .ends, one, two, three)
+    omega (
+      arith,
+      s .pre,
+      word .copy .kept .0,
+      first .put-field .kept .0,
+      first .put-field .ensures .ends,
+      second .put-field2 .kept .0,
+      second .put-field2 .ensures .ends,
+      one,
+      two,
+      three,
+    )
 
 same-length : tie.Need-same-length
 same-length c = search needs

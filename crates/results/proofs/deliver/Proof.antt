@@ -26,13 +26,20 @@ same-length c = search needs
 
 returns : tie.Need-returns
 returns c =
-    let s = c .before .before .before .before .before .before .before .before .before .before in
-    let t = c .before .before .before .before .before .before .before .weigh-rows .ensures in
-    let judged = verdict-is (length (s .args .out .now)) (s .args .work .now) (s .args .n) _ t _ (c .before .before .before .before .before .before .verdict .ensures) in
-    gives-as (refused-late (length (s .args .out .now)) (s .args .branches) none _ (s .args .m) (rowsAt (s .args .work .now) 0 (s .args .n)) refl _ judged (c .before .before .before .before .if1 .taken)) (c .before .before .refuse .ensures)
+    let at-refuse = c .before .before in
+    let at-if1 = at-refuse .before .before in
+    let at-verdict = at-if1 .before .before in
+    let at-weigh-rows = at-verdict .before in
+    let s = at-weigh-rows .before .before .before in
+    let t = at-weigh-rows .weigh-rows .ensures in
+    let judged = verdict-is (length (s .args .out .now)) (s .args .work .now) (s .args .n) _ t _ (at-verdict .verdict .ensures) in
+    gives-as (refused-late (length (s .args .out .now)) (s .args .branches) none _ (s .args .m) (rowsAt (s .args .work .now) 0 (s .args .n)) refl _ judged
+    (at-if1 .if1 .taken)) (at-refuse .refuse .ensures)
 
 -- what was not refused can be delivered
-ready : (k : tie.After-put-rows-arg) → let s = k .before .before .before .before .before .before .before .args in Deliverable (length (s .out .now)) (s .n) (k .before .before .before .before .weigh-rows .result .weight)
+ready : (k : tie.After-put-rows-arg)
+    → let s = k .before .before .before .before .before .before .before .args in Deliverable (length (s .out .now)) (s .n)
+    (k .before .before .before .before .weigh-rows .result .weight)
 ready k = deliverable _ _ _ (ap (λ (r : Refusal). r .number) (sym (k .before .before .before .verdict .ensures)) ∙ k .before .if1 .left)
 
 put-rows-requires : tie.Need-put-rows-requires

@@ -35,8 +35,11 @@ loop-less c = search needs
 
 loop-again : tie.Need-loop-again Inv-loop μ-loop
 loop-again c =
-    let v = c .before .before .before .before .loop in
-    (omega (arith, c .before .before .before .loop-test), weighing-goes (c .before .before .before .before .before .before .args .work .now) _ _ (v .i) _ _ _ (v .inv .1) (omega (arith, c .before .before .before .loop-test)) (c .before .before .get-row .ensures .0) (c .before .size .ensures .0) (c .heavier .ensures))
+    let v = c .before .before .before .before .loop in (
+      omega (arith, c .before .before .before .loop-test),
+      weighing-goes (c .before .before .before .before .before .before .args .work .now) _ _ (v .i) _ _ _ (v .inv .1)
+          (omega (arith, c .before .before .before .loop-test)) (c .before .before .get-row .ensures .0) (c .before .size .ensures .0) (c .heavier .ensures),
+    )
 
 returns : tie.Need-returns Inv-loop μ-loop
 returns c = let v = c .before .loop in weighing-ends (c .before .before .before .args .work .now) _ _ (v .i) (v .inv .1) (omega arith)

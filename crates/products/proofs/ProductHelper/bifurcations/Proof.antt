@@ -7,7 +7,8 @@ returns : tie.Need-returns
 returns c p =
     let s = c .before .before .before in
     let k = c .before .before .struct-known .given in
-    bifurcating (s .args .self .«l_cre») (s .args .self .«l_ann») (s .args .self .«r_cre») (s .args .self .«r_ann») (k .0 .fits) (k .1 .0 .fits) (k .1 .1 .0 .fits) (k .1 .1 .1 .0 .fits) p
+    bifurcating (s .args .self .«l_cre») (s .args .self .«l_ann») (s .args .self .«r_cre») (s .args .self .«r_ann») (k .0 .fits) (k .1 .0 .fits) (k .1 .1 .0 .fits)
+    (k .1 .1 .1 .0 .fits) p
 
 pub bifurcations-spec : {M : Type 1} → statement M
 bifurcations-spec = tie.close (tie.spec returns)

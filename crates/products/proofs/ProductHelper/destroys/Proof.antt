@@ -27,13 +27,16 @@ returns : tie.Need-returns
 returns c =
     let s = c .before .before .before in
     let k = c .before .before .struct-known .given in
-    ap not (ne-eqb _ 0 (c .if1 .taken) ∙ sym (empty-created (s .args .self .«l_cre») (s .args .self .«l_ann») (s .args .self .«r_cre») (s .args .self .«r_ann») (k .0 .fits) (k .1 .0 .fits) (k .1 .1 .0 .fits) (k .1 .1 .1 .0 .fits) (c .if1 .taken)))
+    ap not (ne-eqb _ 0 (c .if1 .taken) ∙ sym
+    (empty-created (s .args .self .«l_cre») (s .args .self .«l_ann») (s .args .self .«r_cre») (s .args .self .«r_ann») (k .0 .fits) (k .1 .0 .fits) (k .1 .1 .0 .fits)
+    (k .1 .1 .1 .0 .fits) (c .if1 .taken)))
 
 returns-2 : tie.Need-returns-2
 returns-2 c =
     let s = c .before .before .before .before .before in
     let k = c .before .before .before .before .struct-known .given in
-    decided (s .args .self .«l_cre») (s .args .self .«l_ann») (s .args .self .«r_cre») (s .args .self .«r_ann») (k .0 .fits) (k .1 .0 .fits) (k .1 .1 .0 .fits) (k .1 .1 .1 .0 .fits) (c .before .before .if1 .left)
+    decided (s .args .self .«l_cre») (s .args .self .«l_ann») (s .args .self .«r_cre») (s .args .self .«r_ann») (k .0 .fits) (k .1 .0 .fits) (k .1 .1 .0 .fits)
+    (k .1 .1 .1 .0 .fits) (c .before .before .if1 .left)
 
 pub destroys-spec : {M : Type 1} → statement M
 destroys-spec = tie.close (tie.spec returns returns-2)

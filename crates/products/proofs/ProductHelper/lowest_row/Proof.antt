@@ -33,16 +33,22 @@ signed-coeff-requires c κs = search needs
 
 returns : tie.Need-returns
 returns c =
-    let s = c .before .before .before .before .before .before .before .before .before .before .before .before .before in
-    let one = c .before .before .before .before .before .before .odd-before-each-set-bit in
-    let two = c .before .before .before .before .before .odd-before-each-set-bit2 in
-    let three = c .before .before .before .odd-before-each-set-bit3 in
-    let four = c .before .before .odd-before-each-set-bit4 in
+    let at-sign-of-bits = c .before in
+    let at-odd-before-each-set-bit4 = at-sign-of-bits .before in
+    let at-odd-before-each-set-bit3 = at-odd-before-each-set-bit4 .before in
+    let at-odd-before-each-set-bit2 = at-odd-before-each-set-bit3 .before .before in
+    let at-odd-before-each-set-bit = at-odd-before-each-set-bit2 .before in
+    let s = at-odd-before-each-set-bit .before .before .before .before .before .before .before in
+    let one = at-odd-before-each-set-bit .odd-before-each-set-bit in
+    let two = at-odd-before-each-set-bit2 .odd-before-each-set-bit2 in
+    let three = at-odd-before-each-set-bit3 .odd-before-each-set-bit3 in
+    let four = at-odd-before-each-set-bit4 .odd-before-each-set-bit4 in
     let small : SFits w64 (c .signed-coeff .result) = record { sfits = c .signed-coeff .ok } in
     let sign = lowest-sign (s .args .self .«l_cre») (s .args .self .«l_ann») (s .args .self .«r_cre») (s .args .self .«r_ann»)
     (one .result) (two .result) (three .result) (four .result) (one .ensures) (two .ensures) (three .ensures) (four .ensures) in
-    let same : toZ w64 (ofZ w64 (c .signed-coeff .result)) ≡ signed (minusAt (s .args .self .«l_cre») (s .args .self .«l_ann») (s .args .self .«r_cre») (s .args .self .«r_ann») 0) (s .args .coeff) =
-    toZ-ofZ small ∙ c .signed-coeff .ensures ∙ ap₂ signed (c .before .sign-of-bits .ensures ∙ sign) (toZ-ofZ (s .fits .coeff)) in
+    let same : toZ w64 (ofZ w64 (c .signed-coeff .result)) ≡ signed
+    (minusAt (s .args .self .«l_cre») (s .args .self .«l_ann») (s .args .self .«r_cre») (s .args .self .«r_ann») 0) (s .args .coeff) =
+    toZ-ofZ small ∙ c .signed-coeff .ensures ∙ ap₂ signed (at-sign-of-bits .sign-of-bits .ensures ∙ sign) (toZ-ofZ (s .fits .coeff)) in
     (term-of (sym (or-zero-r _)) (sym (or-zero-r _)) same, rw (same, abs-signed) (s .pre))
 
 pub lowest-row-spec : {M : Type 1} → statement M
