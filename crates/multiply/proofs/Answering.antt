@@ -27,8 +27,8 @@ use Rattle.results.specs.declared.Opened.{Opened}
 use Rattle.results.proofs.Results.{Opens, opens, shuts}
 use Rattle.record.proofs.Accepted.{sound}
 use Rattle.record.specs.Reading.{Holds}
-use Rattle.joins.specs.Collected.{Collected}
-use Rattle.joins.specs.KeyWeights.{Light}
+use Rattle.collect.specs.Collected.{Collected}
+use Rattle.collect.specs.KeyWeights.{Light}
 use Rattle.pairs.specs.Products.{allRows, allBranches}
 use Rattle.multiply.specs.Answers.{weightRefusal, workRefusal, earlyRefusal, productAnswer}
 use Rattle.pairs.specs.Filling.{Filled, Grown, filled, over}

@@ -39,7 +39,7 @@ fn produce(both: bool, sign: Sign, a: &[u8], b: &[u8], work: &mut [u8], out: &mu
     if work.len() < s.held {
         return lent::refuse(out, Refusal::ROWS_DO_NOT_FIT);
     }
-    let n = joins::collect(work, s.used / 24);
+    let n = collect::collect(work, s.used / 24);
     results::deliver(work, n, (s.held / 24) as u64, p.modes, out)
 }
 

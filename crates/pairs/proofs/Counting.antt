@@ -21,8 +21,8 @@ use Rattle.products.proofs.Multiplied.{rows-none, rows-number}
 use Rattle.products.proofs.ProductTheorems.{rows-differ}
 use Rattle.products.proofs.Signs.{abs-signed}
 use Rattle.record.specs.Terms.{weight}
-use Rattle.joins.specs.KeyWeights.{keyWeight, Light}
-use Rattle.joins.proofs.KeyWeights.{weight-append}
+use Rattle.collect.specs.KeyWeights.{keyWeight, Light}
+use Rattle.collect.proofs.KeyWeights.{weight-append}
 use Rattle.pairs.specs.Products.{pairRows, rowsWith, allRows, branchesOf, allBranches}
 
 -- ---- the branches

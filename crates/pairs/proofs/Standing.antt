@@ -17,8 +17,8 @@ use Rattle.modes.proofs.Sums.{sum-append, sum-last}
 use Rattle.lent.specs.Rows.{rowAt, putRow, rowsAt, Fit}
 use Rattle.lent.proofs.RowLaws.{rows-put}
 use Rattle.record.specs.Coefficients.{coeffIn, coeffOf}
-use Rattle.joins.specs.KeyWeights.{keyWeight}
-use Rattle.joins.proofs.KeyWeights.{weight-append}
+use Rattle.collect.specs.KeyWeights.{keyWeight}
+use Rattle.collect.proofs.KeyWeights.{weight-append}
 use Rattle.pairs.specs.Filling.{Stands, Opposite, Settled, cancelled, kept}
 use Rattle.pairs.specs.declared.Fill.{Fill}
 

@@ -7,7 +7,7 @@ use lib.ListN.{length}
 use Rattle.modes.specs.declared.Term.{Term}
 use Rattle.lent.specs.Rows.{rowAt, rowsAt}
 use Rattle.record.specs.Coefficients.{coeffOf}
-use Rattle.joins.specs.KeyWeights.{keyWeight}
+use Rattle.collect.specs.KeyWeights.{keyWeight}
 use Rattle.pairs.specs.declared.Fill.{Fill}
 
 -- what is used is held, and what is held fits

@@ -10,7 +10,7 @@ use Rattle.modes.proofs.Sums.{natural-numbers, by-append}
 use Rattle.lent.specs.Rows.{rowsAt}
 use Rattle.integers.proofs.SignedNumbers.{abs-sum}
 use Rattle.record.specs.Coefficients.{coeffIn, coeffOf}
-use Rattle.joins.specs.KeyWeights.{keyWeight}
+use Rattle.collect.specs.KeyWeights.{keyWeight}
 
 pub coeff-below : (cre ann : ℕ) (ts : List Term) → natAbs (coeffOf cre ann ts) ≤ keyWeight cre ann ts
 unfolding sumOf keyWeight

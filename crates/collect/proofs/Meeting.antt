@@ -7,7 +7,7 @@ use Rattle.modes.specs.declared.Term.{Term}
 use Rattle.lent.specs.Rows.{Fit}
 use Rattle.products.specs.Product.{Other}
 use Rattle.normal.specs.Normal.{join}
-use Rattle.joins.specs.Steps.{Closed, Met, joined, opened}
+use Rattle.collect.specs.Steps.{Closed, Met, joined, opened}
 
 -- x in hand, and y read where the row r stands
 module _ (x y r : Term) (e : y ≡ r) where

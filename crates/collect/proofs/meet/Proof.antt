@@ -1,11 +1,11 @@
--- `joins::meet` meets its contract: words that agree are joined, and others close the row in hand.
+-- `collect::meet` meets its contract: words that agree are joined, and others close the row in hand.
 use mathlib.Core.Logic.{⊎-elim}
 use Prim.Native.Nat.{_*_}
 use Rattle.lent.specs.Rows.{rowAt}
-use Rattle.joins.proofs.Meeting.{meet-sum, met-joined, met-opened}
+use Rattle.collect.proofs.Meeting.{meet-sum, met-joined, met-opened}
 use borrow.Author.Needs.{needs}
-use Rattle.joins.proofs.meet.Statement.{statement}
-use Rattle.joins.proofs.meet.Tie as tie
+use Rattle.collect.proofs.meet.Statement.{statement}
+use Rattle.collect.proofs.meet.Tie as tie
 
 mul-get-row : tie.Need-mul-get-row
 mul-get-row c = search needs

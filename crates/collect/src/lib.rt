@@ -6,9 +6,9 @@ ghost use Prim.Native.Nat.{_+_, _*_, _≤_, _<_, _^_};
 ghost use lib.IntN.{natAbs};
 ghost use lib.ListN.{length};
 ghost use Rattle.lent.specs.Rows.{Fit, rowAt, rowsAt};
-ghost use Rattle.joins.specs.KeyWeights.{Light};
-ghost use Rattle.joins.specs.Steps.{InOrder, Closed, Met};
-ghost use Rattle.joins.specs.Collected.{Collected};
+ghost use Rattle.collect.specs.KeyWeights.{Light};
+ghost use Rattle.collect.specs.Steps.{InOrder, Closed, Met};
+ghost use Rattle.collect.specs.Collected.{Collected};
 
 // The rows before `place` are done; `row` is in hand until the rows like it are read.
 struct Open {
@@ -28,7 +28,7 @@ fn close(work: &mut [u8], place: usize, row: Term) -> usize
     place + 1
 }
 
-// The row at i joins the row in hand, or closes it and takes its turn. It is read first: the place may be its own.
+// The row at i joins the row in hand, or closes it and is in hand then. It is read first: the place may be its own.
 fn meet(work: &mut [u8], i: usize, o: Open) -> Open
     requires { ⌜ (o .place < i) × (24 * i + 24 ≤ length (now work)) × Fit (o .row)
         × ((rowAt (now work) (24 * i)) .ann ≡ o .row .ann → (rowAt (now work) (24 * i)) .cre ≡ o .row .cre

@@ -1,9 +1,9 @@
--- `joins::join` meets its contract: at every row the rows done and the one in hand make what the rows read make.
+-- `collect::join` meets its contract: at every row the rows done and the one in hand make what the rows read make.
 use Prim.Native.Nat.{_-_}
-use Rattle.joins.proofs.Joining.{Joining, joining-from, joining-on, row-room, place-room, meet-light, joined-none, joined-all}
+use Rattle.collect.proofs.Joining.{Joining, joining-from, joining-on, row-room, place-room, meet-light, joined-none, joined-all}
 use borrow.Author.Needs.{needs}
-use Rattle.joins.proofs.join.Statement.{statement}
-use Rattle.joins.proofs.join.Tie as tie
+use Rattle.collect.proofs.join.Statement.{statement}
+use Rattle.collect.proofs.join.Tie as tie
 
 abbrev Inv-loop : tie.InvT-loop
 Inv-loop work₀ n o₀ i₀ work o i = Joining n i work₀ work (o .place) (o .row)

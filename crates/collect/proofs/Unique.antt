@@ -7,7 +7,7 @@ use Rattle.lent.specs.Rows.{rowsAt}
 use Rattle.lent.proofs.RowLaws.{length-rows-at}
 use Rattle.record.specs.Coefficients.{coeffOf}
 use Rattle.normal.proofs.Normal.{normal-same}
-use Rattle.joins.specs.Collected.{Collected}
+use Rattle.collect.specs.Collected.{Collected}
 
 -- two answers to rows that make the same are the same
 pub collected-unique : (n n2 : ℕ) (l l2 m m2 : List ℕ) (k k2 : ℕ) → Collected n l m k → Collected n2 l2 m2 k2

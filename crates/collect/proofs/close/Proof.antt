@@ -1,8 +1,8 @@
--- `joins::close` meets its contract: the row is dropped, or stored behind those that are done.
-use Rattle.joins.proofs.Closing.{closed-dropped, closed-stored}
+-- `collect::close` meets its contract: the row is dropped, or stored behind those that are done.
+use Rattle.collect.proofs.Closing.{closed-dropped, closed-stored}
 use borrow.Author.Needs.{needs}
-use Rattle.joins.proofs.close.Statement.{statement}
-use Rattle.joins.proofs.close.Tie as tie
+use Rattle.collect.proofs.close.Statement.{statement}
+use Rattle.collect.proofs.close.Tie as tie
 
 returns : tie.Need-returns
 returns c =

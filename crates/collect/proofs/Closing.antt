@@ -14,7 +14,7 @@ use Rattle.lent.specs.Bytes.{num, numAt, wordAt}
 use Rattle.lent.specs.Rows.{Fit, rowBytes, rowAt, rowsAt, putRow}
 use Rattle.lent.proofs.Puts.{length-put, drop-put}
 use Rattle.lent.proofs.RowLaws.{term-of, length-row, rows-put}
-use Rattle.joins.specs.Steps.{dropped, stored, Closed}
+use Rattle.collect.specs.Steps.{dropped, stored, Closed}
 
 -- the code's test is on the bits of the coefficient
 pub closed-dropped : (p : ℕ) (x : Term) (l : List ℕ) → Fit x → ofZ w64 (x .coeff) ≡ 0 → Closed p x l l p

@@ -1,9 +1,9 @@
--- `joins::collect` meets its contract: the sort keeps what the rows make, and puts like ones side by side.
+-- `collect::collect` meets its contract: the sort keeps what the rows make, and puts like ones side by side.
 use lib.ListN.{length}
-use Rattle.joins.proofs.Sorting.{front-apart, sorted-fit, collected}
+use Rattle.collect.proofs.Sorting.{front-apart, sorted-fit, collected}
 use borrow.Author.Needs.{needs}
-use Rattle.joins.proofs.collect.Statement.{statement}
-use Rattle.joins.proofs.collect.Tie as tie
+use Rattle.collect.proofs.collect.Statement.{statement}
+use Rattle.collect.proofs.collect.Tie as tie
 
 rows-requires : tie.Need-rows-requires
 rows-requires c κs = search needs

@@ -20,10 +20,10 @@ use Rattle.rows.proofs.Layouts.{rows-apart, term-row, terms-rows}
 use Rattle.rows.proofs.SortedTerms.{arranged, sum-kept, sorted-ascending, rows-around}
 use Rattle.record.specs.Coefficients.{coeffIn, coeffOf}
 use Rattle.normal.proofs.Normal.{normal-same}
-use Rattle.joins.specs.KeyWeights.{keyWeight, Light}
-use Rattle.joins.specs.Collected.{Collected}
-use Rattle.joins.specs.Steps.{InOrder}
-use Rattle.joins.proofs.Closing.{same-from}
+use Rattle.collect.specs.KeyWeights.{keyWeight, Light}
+use Rattle.collect.specs.Collected.{Collected}
+use Rattle.collect.specs.Steps.{InOrder}
+use Rattle.collect.proofs.Closing.{same-from}
 
 -- the weight as a sum of whole numbers
 weight-sum : (cre ann : ℕ) (ts : List Term) → pos (keyWeight cre ann ts) ≡ sumOf (λ t. pos (natAbs (coeffIn cre ann t))) ts

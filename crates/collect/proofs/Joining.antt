@@ -16,12 +16,12 @@ use Rattle.products.specs.Product.{Other}
 use Rattle.record.specs.Coefficients.{coeffOf}
 use Rattle.normal.specs.Normal.{join, collect, dropZeros}
 use Rattle.normal.proofs.Normal.{normal-is}
-use Rattle.joins.specs.KeyWeights.{keyWeight, Light}
-use Rattle.joins.specs.Collected.{Collected}
-use Rattle.joins.specs.Steps.{InOrder, Closed, Met, joined, opened}
-use Rattle.joins.proofs.KeyWeights.{weight-up}
-use Rattle.joins.proofs.InHand.{InHand, first-in-hand, next-in-hand, joined-in-hand, closed-done, both-weigh, comes-after}
-use Rattle.joins.proofs.Closing.{same-from, same-row}
+use Rattle.collect.specs.KeyWeights.{keyWeight, Light}
+use Rattle.collect.specs.Collected.{Collected}
+use Rattle.collect.specs.Steps.{InOrder, Closed, Met, joined, opened}
+use Rattle.collect.proofs.KeyWeights.{weight-up}
+use Rattle.collect.proofs.InHand.{InHand, first-in-hand, next-in-hand, joined-in-hand, closed-done, both-weigh, comes-after}
+use Rattle.collect.proofs.Closing.{same-from, same-row}
 
 -- of the n rows of l, i are read: p rows of m are done, and x is in hand
 pub record Joining (n i : ℕ) (l m : List ℕ) (p : ℕ) (x : Term) : Type 0 where

@@ -22,10 +22,10 @@ use Rattle.record.specs.Canonical.{Nonzero}
 use Rattle.record.specs.Coefficients.{coeffIn, coeffOf}
 use Rattle.normal.specs.Normal.{join}
 use Rattle.normal.proofs.Totals.{alike-words, coeff-additive}
-use Rattle.joins.specs.KeyWeights.{keyWeight}
-use Rattle.joins.specs.Steps.{Ended, dropped, stored}
-use Rattle.joins.proofs.Ends.{Under, ascending-end, under-trans, under-same, under-none}
-use Rattle.joins.proofs.KeyWeights.{coeff-below, weight-end}
+use Rattle.collect.specs.KeyWeights.{keyWeight}
+use Rattle.collect.specs.Steps.{Ended, dropped, stored}
+use Rattle.collect.proofs.Ends.{Under, ascending-end, under-trans, under-same, under-none}
+use Rattle.collect.proofs.KeyWeights.{coeff-below, weight-end}
 
 -- the rows ts are done, and are what the rows us make together
 pub record Done (ts us : List Term) : Type 0 where
