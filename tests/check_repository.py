@@ -37,7 +37,7 @@ def each_has_a_statement():
 
 def each_is_in_promises():
     """By its crate and name, and those of the C face by their name."""
-    told, faults = text("docs/PROMISES.md") + text("docs/INNER.md"), []
+    told, faults = text("docs/PROMISES.md"), []
     for path, name, _ in public_functions():
         crate = path.split("/")[1]
         named = rf"`{name}`" if crate == "fermion" else rf"`{crate}::(?:\w+::)?{name}\("
@@ -163,15 +163,14 @@ def the_reading_list_is_whole():
     return faults + [f"{path}: in the list or unmarked, and not both" for path in sorted(listed ^ unmarked)]
 
 
-def definitions_are_where_the_pages_say():
+def definitions_are_where_the_page_says():
     """Rows of `names`, then crate and `files`: each name is defined in one of these files."""
     faults = []
-    for page in "docs/PROMISES.md", "docs/INNER.md":
-        for names, crate, files in re.findall(r"^\| (`[^|]*`) \| (\w+), ((?:`\w+`(?:, )?)+) \|", text(page), re.M):
-            known = {}
-            for file in re.findall(r"`(\w+)`", files):
-                known.update(definitions(f"crates/{crate}/specs/{file}.antt"))
-            faults += [f"{page}: {name} is not in {crate}, {files}" for name in re.findall(r"`([^`\s]+)[^`]*`", names) if name not in known]
+    for names, crate, files in re.findall(r"^\| (`[^|]*`) \| (\w+), ((?:`\w+`(?:, )?)+) \|", text("docs/PROMISES.md"), re.M):
+        known = {}
+        for file in re.findall(r"`(\w+)`", files):
+            known.update(definitions(f"crates/{crate}/specs/{file}.antt"))
+        faults += [f"{name} is not in {crate}, {files}" for name in re.findall(r"`([^`\s]+)[^`]*`", names) if name not in known]
     return faults
 
 
@@ -253,7 +252,7 @@ def layout_is_the_formatters():
 TESTS = [
     each_has_a_statement, each_is_in_promises, the_face_refuses_by_itself, the_header_is_the_face,
     specs_hold_definitions_only, files_for_inner_functions_say_so, the_reading_list_is_whole,
-    definitions_are_where_the_pages_say, theorems_are_where_the_page_says, edits_say_what_they_are, nothing_is_left_lying_in_the_root,
+    definitions_are_where_the_page_says, theorems_are_where_the_page_says, edits_say_what_they_are, nothing_is_left_lying_in_the_root,
     the_readme_names_the_toolchain, the_readme_names_every_crate,
     the_readme_shows_what_its_commands_print, what_documents_once_said_wrongly_is_right, links_lead_somewhere,
     layout_is_the_formatters,

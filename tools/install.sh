@@ -74,7 +74,7 @@ file "$scratch/fermion.pc" "$root/lib/pkgconfig/fermion.pc" 644
 cp "$library" "$scratch/libfermion.so"
 folder "$root/lib/python/fermion" bindings/python/fermion/* "$scratch/libfermion.so"
 folder "$root/share/fermion/rust" bindings/rust/{Cargo.toml,Cargo.lock,build.rs,README.md,src} LICENSE NOTICE
-folder "$root/share/doc/fermion" docs/{INSTALL,RECORD,PROMISES,INNER}.md examples/example.c LICENSE NOTICE
+folder "$root/share/doc/fermion" docs/{INSTALL,RECORD,PROMISES}.md examples/example.c LICENSE NOTICE
 
 quoted=$(printf %q "$prefix")
 cat <<TEXT
