@@ -1,5 +1,6 @@
 pub mod Totals
 pub mod Merging
+pub mod Stepping
 pub mod Tallying
 pub mod Writing
 pub mod Sums

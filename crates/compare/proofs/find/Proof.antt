@@ -6,7 +6,7 @@ use Prim.Native.Nat.{ℕ, _+_, _-_, _≤_}
 use native.Mathlib.Omega.{arith}
 use Rattle.modes.specs.declared.Term.{Term}
 use Rattle.lincomb.specs.Merging.{onward}
-use Rattle.lincomb.proofs.Merging.{spent}
+use Rattle.lincomb.proofs.Stepping.{spent}
 use Rattle.compare.proofs.Finding.{Finding, finding-goes, finding-ends-some, finding-ends-none}
 use borrow.Author.Needs.{needs}
 use Rattle.compare.proofs.find.Statement.{statement}

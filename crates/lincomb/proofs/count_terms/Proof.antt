@@ -5,7 +5,7 @@ use Prim.Native.Nat.{_+_, _-_, _≤_}
 use native.Mathlib.Omega.{arith}
 use Rattle.modes.specs.declared.Term.{Term}
 use Rattle.lincomb.specs.Merging.{onward}
-use Rattle.lincomb.proofs.Merging.{spent}
+use Rattle.lincomb.proofs.Stepping.{spent}
 use Rattle.lincomb.proofs.Tallying.{Tallying, tally-starts, tally-goes, tally-ends}
 use Rattle.lincomb.proofs.count_terms.Statement.{statement}
 use Rattle.lincomb.proofs.count_terms.Tie as tie

@@ -1,7 +1,7 @@
 -- `lincomb::next` meets its contract: one record is spent, or one term stands before the other, or they are alike.
 use mathlib.Core.Path.{sym, _∙_}
 use native.Mathlib.Omega.{arith}
-use Rattle.lincomb.proofs.Merging.{Heads, only-left, only-right, next-right, step-less, step-greater, step-level, small-read, small-turned}
+use Rattle.lincomb.proofs.Stepping.{Heads, only-left, only-right, next-right, step-less, step-greater, step-level, small-read, small-turned}
 use borrow.Author.Needs.{needs}
 use Rattle.lincomb.proofs.next.Statement.{statement}
 use Rattle.lincomb.proofs.next.Tie as tie

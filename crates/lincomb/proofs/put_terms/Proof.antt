@@ -7,7 +7,7 @@ use native.Mathlib.Omega.{arith}
 use lib.ListN.{length}
 use Rattle.modes.specs.declared.Term.{Term}
 use Rattle.lincomb.specs.Merging.{onward}
-use Rattle.lincomb.proofs.Merging.{spent}
+use Rattle.lincomb.proofs.Stepping.{spent}
 use Rattle.lincomb.proofs.Writing.{Writing, writing-starts, writing-ends, leaves-out, has-place, writes}
 use Rattle.lincomb.proofs.put_terms.Statement.{statement}
 use Rattle.lincomb.proofs.put_terms.Tie as tie
