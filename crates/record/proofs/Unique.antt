@@ -2,7 +2,7 @@
 use mathlib.Core.Path.{_≡_, sym, _∙_}
 use mathlib.Core.Bool.{Bool}
 use mathlib.Core.List.{List, _∷_}
-use Prim.Native.Nat.{ℕ, _+_, _^_, _≤_}
+use Prim.Native.Nat.{ℕ, _+_, _^_, _≤_, _<_}
 use lib.IntN.{natAbs}
 use lib.ListN.{drop, length, set}
 use Rattle.modes.specs.declared.Term.{Term}
@@ -11,7 +11,7 @@ use Rattle.modes.proofs.Unique.{one}
 use Rattle.lent.specs.Outputs.{filledOutput, Gives}
 use Rattle.lent.proofs.Outputs.{gives-one}
 use Rattle.record.specs.Terms.{before}
-use Rattle.record.specs.Layout.{encode, termsIn, recordLength}
+use Rattle.record.specs.Layout.{encode, termsIn, recordLength, totalOf}
 use Rattle.record.specs.Refusals.{checkedOf}
 use Rattle.record.specs.Reading.{At}
 use Rattle.record.specs.Weights.{heavierBy}
@@ -19,6 +19,9 @@ use Rattle.record.specs.Blocks.{blockOf, bytesIn}
 use Rattle.record.specs.Counting.{countIf, earlier}
 use Rattle.record.specs.declared.Checked.{Checked}
 use Rattle.record.specs.declared.Stretch.{Stretch}
+
+pub one-total : (l : List ℕ) (r s : ℕ) → (r ≡ totalOf l) × (r < 2 ^ 32) → (s ≡ totalOf l) × (s < 2 ^ 32) → r ≡ s
+one-total l r s p q = one (p .0) (q .0)
 
 pub one-check : (o : ℕ) (l : List ℕ) (r s : Checked) → r ≡ checkedOf o l → s ≡ checkedOf o l → r ≡ s
 one-check o l r s = one

@@ -14,7 +14,7 @@ ghost use Rattle.lent.specs.Bytes.{put};
 ghost use Rattle.modes.specs.Answers.{refusal};
 ghost use Rattle.record.specs.Numbers.{numbers, sameNumbers};
 ghost use Rattle.record.specs.Terms.{before, Ascending};
-ghost use Rattle.record.specs.Layout.{fields, header, modesOf, countOf, termsIn, laidOut, recordLength, encode, goodHeader, columnPlaces};
+ghost use Rattle.record.specs.Layout.{fields, header, modesOf, countOf, termsIn, laidOut, recordLength, encode, goodHeader, columnPlaces, totalOf};
 ghost use Rattle.record.specs.Refusals.{termRefusal, refusedRecord, checkedOf};
 ghost use Rattle.record.specs.Reading.{At, Holds};
 ghost use Rattle.lent.specs.Outputs.{Gives, filledOutput};
@@ -23,6 +23,11 @@ ghost use Rattle.modes.specs.Counts.{count};
 ghost use Rattle.record.specs.Weights.{heavierBy};
 ghost use Rattle.record.specs.Counting.{countIf, earlier};
 ghost use Rattle.record.specs.Blocks.{annBelow, blockOf, bytesIn};
+
+// The bytes of a header, and of the longest record.
+pub const HEADER: usize = 32;
+
+pub const LONGEST: usize = 32 + 24 * modes::MOST_TERMS;
 
 // The largest weight that a record may have.
 pub const HEAVIEST: u64 = 1_152_921_504_606_846_976;
@@ -66,6 +71,14 @@ pub fn length_of(n: usize) -> usize
     ensures { λ r. ⌜ r ≡ recordLength n ⌝ }
 {
     32 + 24 * n
+}
+
+// The length that a header tells.
+pub fn total(s: &[u8]) -> usize
+    requires { ⌜ 32 ≤ length (now s) ⌝ }
+    ensures { λ r. ⌜ (r ≡ totalOf (now (s .entry))) × (r < 2 ^ 32) ⌝ }
+{
+    lent::half(s, 24)
 }
 
 // Is the header that of m modes and n terms?
@@ -117,13 +130,13 @@ fn good_header(s: &[u8]) -> bool
 fn laid_out(s: &[u8]) -> bool
     ensures { λ r. ⌜ r ≡ laidOut (now (s .entry)) ⌝ }
 {
-    if s.len() < 32 {
+    if s.len() < HEADER {
         return false;
     }
     if !good_header(s) {
         return false;
     }
-    s.len() == lent::half(s, 24)
+    s.len() == total(s)
 }
 
 // Where the columns of n terms lie.

@@ -9,7 +9,7 @@ use Rattle.record.specs.Operands.{readAs}
 use Rattle.modes.specs.Answers.{refusal}
 use Rattle.lent.specs.Bytes.{zeros}
 use Rattle.lent.specs.Outputs.{Output, refusedOutput}
-use Rattle.record.specs.Layout.{totalOf}
+use Rattle.record.specs.Layout.{totalOf, recordLength}
 use Rattle.multiply.specs.Answers.{commutatorOf}
 use Rattle.reply.specs.Lines.{lineIn}
 
@@ -41,9 +41,9 @@ replyTo work room input = textOf room (answerTo work room input)
 abbrev pub workSize : ℕ
 workSize = 24 * 2730
 
--- the program's output, as long as the longest record: a header of 32 bytes, and 24 for each of 2,048 terms
+-- the program's output, as long as the longest record, that of 2,048 terms
 abbrev pub roomSize : ℕ
-roomSize = 32 + 24 * 2048
+roomSize = recordLength 2048
 
 -- a length and a whole output of `room` bytes are those of a text: the text, and zeros past it
 pub record Says (text : List ℕ) (room r : ℕ) (after : List ℕ) : Type 0 where

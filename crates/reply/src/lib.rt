@@ -15,8 +15,8 @@ ghost use Rattle.reply.specs.Replies.{holdsFirst, answerTo, replyTo, wor
 // The work of a reply: a row of 24 bytes for each of 2,730 branches.
 const WORK: usize = 24 * 2730;
 
-// The output of a reply, as long as the longest record: a header of 32 bytes, and 24 for each of 2,048 terms.
-pub const ROOM: usize = 32 + 24 * 2048;
+// The output of a reply, as long as the longest record.
+pub const ROOM: usize = record::LONGEST;
 
 // The longest input that counts: two longest records, and the byte that is one too many.
 pub const LONGEST_INPUT: usize = 2 * ROOM + 1;
@@ -54,10 +54,10 @@ fn tell(out: &mut [u8], refusal: Refusal) -> usize
 fn holds_first(input: &[u8]) -> bool
     ensures { λ r. ⌜ r ≡ holdsFirst (now (input .entry)) ⌝ }
 {
-    if input.len() < 32 {
+    if input.len() < record::HEADER {
         return false;
     }
-    lent::half(input, 24) <= input.len()
+    record::total(input) <= input.len()
 }
 
 // The one refusal that is decided here: 1, operand 1.
@@ -78,7 +78,7 @@ fn answer(input: &[u8], work: &mut [u8], out: &mut [u8]) -> Written
     ensures { λ r. ⌜ Leaves (answerTo (length (now (work .entry))) (length (now (out .entry))) (now (input .entry))) r (now (out .exit)) (length (now (work .entry))) (now (work .exit)) ⌝ }
 {
     if holds_first(input) {
-        let end = lent::half(input, 24);
+        let end = record::total(input);
         return multiply::commutator(&input[..end], &input[end..], work, out);
     }
     refuse_first(work, out)

@@ -15,11 +15,11 @@ good-header-requires c κs = search needs
 returns-2 : tie.Need-returns-2
 returns-2 c = bad-header _ (sym (c .before .good-header .ensures) ∙ not-true _ (c .if2 .taken))
 
-half-requires : tie.Need-half-requires
-half-requires c κs = search needs
+total-requires : tie.Need-total-requires
+total-requires c κs = search needs
 
 returns-3 : tie.Need-returns-3
-returns-3 c = length-decides _ _ (sym (c .before .before .good-header .ensures) ∙ not-false _ (c .before .if2 .left)) (c .half .ensures .0)
+returns-3 c = length-decides _ _ (sym (c .before .before .good-header .ensures) ∙ not-false _ (c .before .if2 .left)) (c .total .ensures .0)
 
 pub laid-out-spec : {M : Type 1} → statement M
-laid-out-spec = tie.close (tie.spec returns good-header-requires returns-2 half-requires returns-3)
+laid-out-spec = tie.close (tie.spec returns good-header-requires returns-2 total-requires returns-3)

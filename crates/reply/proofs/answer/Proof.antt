@@ -11,14 +11,14 @@ use Rattle.reply.proofs.answer.Tie as tie
 holds-first-requires : tie.Need-holds-first-requires
 holds-first-requires c κs = search needs
 
-half-requires : tie.Need-half-requires
-half-requires c κs = omega (arith, header-there (c .before .before .before .before .before .args .input .now) (sym (c .before .holds-first .ensures) ∙ c .if1 .taken))
+total-requires : tie.Need-total-requires
+total-requires c κs = omega (arith, header-there (c .before .before .before .before .before .args .input .now) (sym (c .before .holds-first .ensures) ∙ c .if1 .taken))
 
 slice-aggregate-commutator : tie.Need-slice-aggregate-commutator
 slice-aggregate-commutator c =
     let input = c .before .before .before .before .before .before .before .args .input .now in
-    sym (length-take-le (c .before .half .result) input
-    (omega (arith, total-there input (sym (c .before .before .before .holds-first .ensures) ∙ c .before .before .if1 .taken), c .before .half .ensures .0)))
+    sym (length-take-le (c .before .total .result) input
+    (omega (arith, total-there input (sym (c .before .before .before .holds-first .ensures) ∙ c .before .before .if1 .taken), c .before .total .ensures .0)))
 
 sub-commutator : tie.Need-sub-commutator
 sub-commutator c =
@@ -26,7 +26,7 @@ sub-commutator c =
       arith,
       total-there (c .before .before .before .before .before .before .before .args .input .now)
           (sym (c .before .before .before .holds-first .ensures) ∙ c .before .before .if1 .taken),
-      c .before .half .ensures .0,
+      c .before .total .ensures .0,
     )
 
 part-commutator-start : tie.Need-part-commutator-start
@@ -35,7 +35,7 @@ part-commutator-start c =
       arith,
       total-there (c .before .before .before .before .before .before .before .args .input .now)
           (sym (c .before .before .before .holds-first .ensures) ∙ c .before .before .if1 .taken),
-      c .before .half .ensures .0,
+      c .before .total .ensures .0,
     )
 
 part-commutator-end : tie.Need-part-commutator-end
@@ -53,12 +53,12 @@ same-length-2 c = search needs
 returns : tie.Need-returns
 returns c =
     let at-commutator = c .before .before .before .before in
-    let at-half = at-commutator .before .before .before .before .before in
-    let at-if1 = at-half .before in
+    let at-total = at-commutator .before .before .before .before .before in
+    let at-if1 = at-total .before in
     let at-holds-first = at-if1 .before in
     let s = at-holds-first .before .before .before .before in
     leaves-as (answer-parts (s .args .input .now) (sym (at-holds-first .holds-first .ensures) ∙ at-if1 .if1 .taken) (length (s .args .work .now))
-    (length (s .args .out .now)) _ (at-half .half .ensures .0)) (at-commutator .commutator .ensures)
+    (length (s .args .out .now)) _ (at-total .total .ensures .0)) (at-commutator .commutator .ensures)
 
 refuse-first-requires : tie.Need-refuse-first-requires
 refuse-first-requires c κs = search needs
@@ -83,7 +83,7 @@ answer-spec =
     tie.close
     (tie.spec
     holds-first-requires
-    half-requires
+    total-requires
     slice-aggregate-commutator
     sub-commutator
     part-commutator-start

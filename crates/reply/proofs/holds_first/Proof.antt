@@ -11,13 +11,13 @@ use Rattle.reply.proofs.holds_first.Tie as tie
 returns : tie.Need-returns
 returns c = no-header (c .before .before .args .input .now) (c .if1 .taken)
 
-half-requires : tie.Need-half-requires
-half-requires c κs = search needs
+total-requires : tie.Need-total-requires
+total-requires c κs = search needs
 
 returns-2 : tie.Need-returns-2
 returns-2 c =
     let input = c .before .before .before .args .input .now in
-    ap (λ (total : ℕ). leb total (length input)) (c .half .ensures .0) ∙ total-decides input (c .before .if1 .left)
+    ap (λ (total : ℕ). leb total (length input)) (c .total .ensures .0) ∙ total-decides input (c .before .if1 .left)
 
 pub holds-first-spec : {M : Type 1} → statement M
-holds-first-spec = tie.close (tie.spec returns half-requires returns-2)
+holds-first-spec = tie.close (tie.spec returns total-requires returns-2)
