@@ -19,7 +19,8 @@ use Rattle.record.proofs.Accepted.{Accepted, refusal-told, refused}
 use Rattle.record.proofs.Outputs.{refused-earlier, refused-late, delivers}
 use Rattle.adjoint.specs.Adjoint.{adjointTerms, adjointed}
 
-pub adjointed-refused : (room : ℕ) (l : List ℕ) (c : Checked) → c ≡ checkedOf 1 l → (c .refusal .number ≡ 0 → ⊥) → refusedOutput room (c .refusal) ≡ adjointed room (readAs 1 l)
+pub adjointed-refused : (room : ℕ) (l : List ℕ) (c : Checked) → c ≡ checkedOf 1 l → (c .refusal .number ≡ 0 → ⊥)
+    → refusedOutput room (c .refusal) ≡ adjointed room (readAs 1 l)
 adjointed-refused room l c e h =
     rw (refusal-told 1 l c e) (refused-earlier room 0 (refusalOf 1 l) _ (modesOf l) (adjointTerms (termsOf l)) (refused 1 l c e h))
 

@@ -37,5 +37,6 @@ module _ (l : List ℕ) (c : Checked) (k : Accepted 1 l c) (small : Small l) whe
       go true e = absurd (t .no refl (bytes-among (same-numbers (adjointBytes l) l e)))
       go false e = refl
 
-  pub hermitian-found : (b : Bool) → Tells b (AdjointsAmong (termsIn l (c .terms)) (termsIn l (c .terms))) → _≡_ {A = Tested} (record { refusal = none; holds = b }) (hermitianOf l)
+  pub hermitian-found : (b : Bool) → Tells b (AdjointsAmong (termsIn l (c .terms)) (termsIn l (c .terms)))
+      → _≡_ {A = Tested} (record { refusal = none; holds = b }) (hermitianOf l)
   hermitian-found b t = rw (told b (rw (k .terms) at t)) (sym (unless-not (refusalOf 1 l) notTested _ (k .number)))

@@ -11,16 +11,17 @@ use Rattle.modes.specs.Every.{Every}
 use Rattle.modes.proofs.Every.{every-map, every-both}
 use Rattle.integers.proofs.SignedNumbers.{abs-fits}
 use Rattle.lent.specs.Rows.{Fit}
-use Rattle.rows.specs.Terms.{at}
-use Rattle.rows.specs.Order.{key}
-use Rattle.rows.specs.Sorted.{Arranged}
-use Rattle.rows.proofs.UpTo.{every-at}
-use Rattle.rows.proofs.SortedTerms.{sum-kept, every-kept}
+use Rattle.places.specs.Terms.{at}
+use Rattle.places.specs.Order.{key}
+use Rattle.sort.specs.Sorted.{Arranged, Sorted}
+use Rattle.places.proofs.UpTo.{every-at}
+use Rattle.sort.proofs.SortedTerms.{arranged, sum-kept, every-kept}
 use Rattle.record.specs.Terms.{before, Ascending}
-use Rattle.record.specs.Layout.{termsIn}
+use Rattle.record.specs.Layout.{termsIn, columnPlaces}
 use Rattle.record.specs.Canonical.{Nonzero, Canonical}
 use Rattle.record.specs.Coefficients.{coeffIn}
 use Rattle.record.proofs.Reading.{length-terms}
+use Rattle.record.proofs.Columns.{at-columns}
 use Rattle.record.proofs.Inverse.{canonical-fit}
 use Rattle.normal.proofs.Normal.{normal-is, normal-same}
 use Rattle.normal.proofs.Sizes.{Rises, nothing, single, onto, rises-ascending}
@@ -52,6 +53,10 @@ fit-adjoint : (ts : List Term) → Every Fit ts → Every Negatable ts → Every
 fit-adjoint ts f h = every-map adjointTerm ts (λ t k. still-fit t (k .0) (k .1)) (every-both ts f h)
 
 -- ---- the sort
+
+-- the terms of a record are those at its columns
+pub sorted-terms : (n : ℕ) (l m : List ℕ) → Sorted (columnPlaces n) n l m → Arranged n (termsIn l n) (termsIn m n)
+sorted-terms n l m s = rw (at-columns l n, at-columns m n) at (arranged s)
 
 module _ (m n : ℕ) (ts us : List Term) (size : length ts ≡ n) (size2 : length us ≡ n) (k : Canonical m ts) (s : Arranged n (map adjointTerm ts) us) where
   count : length (map adjointTerm ts) ≡ n

@@ -49,7 +49,8 @@ pub still-nonzero : (t : Term) → Nonzero t → Nonzero (adjointTerm t)
 still-nonzero t h e = h (abs-zero (t .coeff) (sym (same-size t) ∙ ap natAbs e))
 
 -- one term from what the code finds of it
-pub adjoint-made : (t : Term) (x y : ℕ) (s : Bool) (z : ℤ) → x ≡ pairs (creations t) → y ≡ pairs (annihilations t) → s ≡ parity (x + y) → z ≡ signed s (t .coeff)
+pub adjoint-made : (t : Term) (x y : ℕ) (s : Bool) (z : ℤ) → x ≡ pairs (creations t) → y ≡ pairs (annihilations t) → s ≡ parity (x + y)
+    → z ≡ signed s (t .coeff)
     → _≡_ {A = Term} (record { cre = t .ann; ann = t .cre; coeff = z }) (adjointTerm t)
 unfolding adjointTerm oddPairs
 adjoint-made t x y s z ex ey es ez = term-of refl refl (ez ∙ rw (es, ex, ey))

@@ -70,7 +70,8 @@ module _ (room : ℕ) (l after : List ℕ) (r : Written) (g : Gives (adjointed r
       ∙ element-adjoint bra ket (termsOf l) (canonical-fit (modesOf l) (termsOf l) (accepted-canonical 1 l (left .fine)))
 
   -- the adjoint of what it leaves is the record
-  pub adjoint-restores : (room′ : ℕ) (after′ : List ℕ) (r′ : Written) → Small l → Gives (adjointed room′ (readAs 1 (take (r .len) after))) r′ after′ → r′ .refusal .number ≡ 0
+  pub adjoint-restores : (room′ : ℕ) (after′ : List ℕ) (r′ : Written) → Small l → Gives (adjointed room′ (readAs 1 (take (r .len) after))) r′ after′
+      → r′ .refusal .number ≡ 0
       → take (r′ .len) after′ ≡ l
   adjoint-restores room′ after′ r′ small g′ e′ =
       left-by room′ (take (r .len) after) after′ r′ g′ e′ .bytes ∙ ap adjointBytes (left .bytes) ∙ bytes-twice l (left .fine) small

@@ -10,7 +10,8 @@ use Rattle.record.specs.declared.Tested.{Tested}
 use Rattle.adjoint.specs.Adjoint.{adjointed}
 use Rattle.adjoint.specs.Hermitian.{hermitianOf}
 
-pub one-adjoint : (room : ℕ) (l : List ℕ) (r r′ : Written) (after after′ : List ℕ) → Gives (adjointed room (readAs 1 l)) r after → Gives (adjointed room (readAs 1 l)) r′ after′
+pub one-adjoint : (room : ℕ) (l : List ℕ) (r r′ : Written) (after after′ : List ℕ) → Gives (adjointed room (readAs 1 l)) r after
+    → Gives (adjointed room (readAs 1 l)) r′ after′
     → (r ≡ r′) × (after ≡ after′)
 one-adjoint room l r r′ after after′ = gives-one
 

@@ -141,33 +141,42 @@ impl Rows {
     }
 }
 
+// Case 2: one row, {0|0}.
+fn second_case() -> bool {
+    let two = product(1, 1, 1, 1);
+    let out = two.out;
+    two.has_rows(1) && row_is(&out, 0, 1, 1, 1)
+}
+
+// Case 3: the constant before the row of rank 1.
+fn third_case() -> bool {
+    let three = product(0, 1, 1, 0);
+    let out = three.out;
+    three.has_rows(2) && row_is(&out, 0, 0, 0, 1) && row_is(&out, 1, 1, 1, u64::MAX)
+}
+
+// Case 8: four rows, low rank before high.
+fn eighth_case() -> bool {
+    let eight = product(0, 3, 3, 0);
+    let out = eight.out;
+    eight.has_rows(4)
+        && row_is(&out, 0, 0, 0, u64::MAX)
+        && row_is(&out, 1, 2, 2, 1)
+        && row_is(&out, 2, 1, 1, 1)
+        && row_is(&out, 3, 3, 3, 1)
+}
+
 // Cases 1 to 8, in their order.
 fn numbered_products() -> Tally {
-    let two = product(1, 1, 1, 1);
-    let three = product(0, 1, 1, 0);
-    let eight = product(0, 3, 3, 0);
-    let two_out = two.out;
-    let three_out = three.out;
-    let eight_out = eight.out;
     Tally::new()
         .with(product(1, 0, 1, 0).has_rows(0))
-        .with(two.has_rows(1) && row_is(&two_out, 0, 1, 1, 1))
-        .with(
-            three.has_rows(2)
-                && row_is(&three_out, 0, 0, 0, 1)
-                && row_is(&three_out, 1, 1, 1, u64::MAX),
-        )
+        .with(second_case())
+        .with(third_case())
         .with(product(0, 1, 2, 0).is_minus(1, 2))
         .with(product(0, 1, 2, 4).is_minus(5, 2))
         .with(product(1, 4, 2, 0).is_minus(4, 3))
         .with(product(2, 0, 1, 0).is_minus(0, 3))
-        .with(
-            eight.has_rows(4)
-                && row_is(&eight_out, 0, 0, 0, u64::MAX)
-                && row_is(&eight_out, 1, 2, 2, 1)
-                && row_is(&eight_out, 2, 1, 1, 1)
-                && row_is(&eight_out, 3, 3, 3, 1),
-        )
+        .with(eighth_case())
 }
 
 // Cases 9 to 13, in their order.

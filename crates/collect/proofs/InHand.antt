@@ -15,7 +15,7 @@ use Rattle.modes.proofs.Sums.{sum-last}
 use Rattle.modes.specs.Every.{Every, none}
 use Rattle.modes.proofs.Every.{every-last}
 use Rattle.lent.specs.Rows.{Fit}
-use Rattle.rows.specs.Order.{key}
+use Rattle.places.specs.Order.{key}
 use Rattle.products.specs.Product.{Other}
 use Rattle.record.specs.Terms.{before, Ascending, empty}
 use Rattle.record.specs.Canonical.{Nonzero}

@@ -11,7 +11,7 @@ use Rattle.modes.specs.Every.{none}
 use Rattle.lent.specs.Rows.{Fit, rowAt, rowsAt}
 use Rattle.lent.proofs.RowLaws.{rows-more}
 use Rattle.integers.proofs.SignedNumbers.{sum-fits}
-use Rattle.rows.specs.Order.{key}
+use Rattle.places.specs.Order.{key}
 use Rattle.products.specs.Product.{Other}
 use Rattle.record.specs.Coefficients.{coeffOf}
 use Rattle.normal.specs.Normal.{join, collect, dropZeros}

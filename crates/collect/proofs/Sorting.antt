@@ -10,14 +10,14 @@ use Rattle.modes.specs.declared.Term.{Term}
 use Rattle.modes.proofs.Sums.{sum-through}
 use Rattle.lent.specs.Rows.{rowAt, rowsAt}
 use Rattle.lent.proofs.RowLaws.{length-rows-at}
-use Rattle.rows.specs.declared.Places.{Places}
-use Rattle.rows.specs.Apart.{Apart}
-use Rattle.rows.specs.Order.{key}
-use Rattle.rows.specs.Places.{rowPlaces, termIn}
+use Rattle.places.specs.declared.Places.{Places}
+use Rattle.places.specs.Apart.{Apart}
+use Rattle.places.specs.Order.{key}
+use Rattle.places.specs.Places.{rowPlaces, termIn}
 use Rattle.modes.specs.Sums.{sumOf}
-use Rattle.rows.specs.Sorted.{Sorted}
-use Rattle.rows.proofs.Layouts.{rows-apart, term-row, terms-rows}
-use Rattle.rows.proofs.SortedTerms.{arranged, sum-kept, sorted-ascending, rows-around}
+use Rattle.sort.specs.Sorted.{Sorted}
+use Rattle.places.proofs.Layouts.{rows-apart, term-row, terms-rows}
+use Rattle.sort.proofs.SortedTerms.{arranged, sum-kept, sorted-ascending, rows-around}
 use Rattle.record.specs.Coefficients.{coeffIn, coeffOf}
 use Rattle.normal.proofs.Normal.{normal-same}
 use Rattle.collect.specs.KeyWeights.{keyWeight, Light}

@@ -6,7 +6,7 @@ use lib.IntN.{pos}
 use lib.ListN.{length, drop}
 use Rattle.modes.specs.declared.Term.{Term}
 use Rattle.lent.specs.Rows.{Fit, rowAt, rowsAt}
-use Rattle.rows.specs.Order.{key}
+use Rattle.places.specs.Order.{key}
 use Rattle.products.specs.Product.{Other}
 use Rattle.record.specs.Canonical.{Nonzero}
 use Rattle.normal.specs.Normal.{join}

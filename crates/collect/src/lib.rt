@@ -1,6 +1,6 @@
 // Rows of 24 bytes in lent memory collected: sorted, like rows joined, zeros dropped.
 use modes::Term;
-use rows::Places;
+use places::Places;
 ghost use mathlib.Core.Path.{_≡_};
 ghost use Prim.Native.Nat.{_+_, _*_, _≤_, _<_, _^_};
 ghost use lib.IntN.{natAbs};
@@ -76,6 +76,6 @@ pub fn collect(work: &mut [u8], n: usize) -> usize
     ensures { λ k. ⌜ Collected n (now (work .entry)) (now (work .exit)) k ⌝ }
 {
     let places = Places::rows(0);
-    rows::sort(work, places, n);
+    sort::sort(work, places, n);
     join(work, n)
 }

@@ -36,7 +36,8 @@ unfolding named
 named-unrefused [] = refl
 named-unrefused (t ∷ ts) = refl
 
-pub not-refused : (a b : List ℕ) (r : Compared) → r ≡ comparedOf (readAs 1 a) (readAs 2 b) → (refusalOf 1 a) .number ≡ 0 → (refusalOf 2 b) .number ≡ 0 → modesOf a ≡ modesOf b
+pub not-refused : (a b : List ℕ) (r : Compared) → r ≡ comparedOf (readAs 1 a) (readAs 2 b) → (refusalOf 1 a) .number ≡ 0 → (refusalOf 2 b) .number ≡ 0
+    → modesOf a ≡ modesOf b
     → r .refusal ≡ none
 not-refused a b r e x y m =
     let pair : operandsRefusal (readAs 1 a) (readAs 2 b) ≡ none =

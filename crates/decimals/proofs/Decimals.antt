@@ -45,7 +45,8 @@ module _ (l : List ℕ) (o n : ℕ) (m : List ℕ) (q : ℕ) where
   pub digit-stored : n < 10 → Stored l o ((48 + n) ∷ []) m q → Stored l o (decimal n) m q
   digit-stored h g = rw (decimal-digit n h) g
 
-  pub digits-stored : 10 ≤ n → o ≤ length l → (k : List ℕ) (p : ℕ) → Stored l o (decimal (n / 10)) k p → Stored k p ((48 + n % 10) ∷ []) m q → Stored l o (decimal n) m q
+  pub digits-stored : 10 ≤ n → o ≤ length l → (k : List ℕ) (p : ℕ) → Stored l o (decimal (n / 10)) k p → Stored k p ((48 + n % 10) ∷ []) m q
+      → Stored l o (decimal n) m q
   digits-stored h fits k p f g = rw (decimal-more n h) (stored-join (decimal (n / 10)) ((48 + n % 10) ∷ []) fits f g)
 
 pub length-digit : (n : ℕ) → n < 10 → length (decimal n) ≡ 1

@@ -17,6 +17,7 @@ pub fills-clean : {o : Output} {w : Written} {out answer : List ℕ} {room : ℕ
     → FillsClean o out answer room work
 fills-clean g e = record { fills = fills (g .output) e; clean = g .clean }
 
-pub fills-float : {t : Told} {value : List Float} {answer : List ℕ} (e : FloatElement) → toldBy e ≡ t → value ≡ floatValues (toldBy e) → answer ≡ floatAnswer (toldBy e)
+pub fills-float : {t : Told} {value : List Float} {answer : List ℕ} (e : FloatElement) → toldBy e ≡ t → value ≡ floatValues (toldBy e)
+    → answer ≡ floatAnswer (toldBy e)
     → FillsFloat t value answer
 fills-float e h v a = record { floats = v ∙ ap floatValues h; numbers = a ∙ ap floatAnswer h }

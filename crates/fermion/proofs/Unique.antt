@@ -18,7 +18,8 @@ pub fills-one : {o : Output} {out out′ answer answer′ : List ℕ} → Fills 
 fills-one g h = (g .bytes ∙ sym (h .bytes), g .numbers ∙ sym (h .numbers))
 
 -- once for every call that is lent work too
-pub fills-clean-one : {o : Output} {out out′ answer answer′ : List ℕ} {room : ℕ} {work work′ : List ℕ} → FillsClean o out answer room work → FillsClean o out′ answer′ room work′
+pub fills-clean-one : {o : Output} {out out′ answer answer′ : List ℕ} {room : ℕ} {work work′ : List ℕ} → FillsClean o out answer room work
+    → FillsClean o out′ answer′ room work′
     → (out ≡ out′) × (answer ≡ answer′) × (work ≡ work′)
 fills-clean-one g h = let one = fills-one (g .fills) (h .fills) in (one .0, one .1, g .clean ∙ sym (h .clean))
 

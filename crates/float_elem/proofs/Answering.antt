@@ -80,5 +80,6 @@ module _ (m : ℕ) (cre ann : List ℕ) (cs : List Float) (bra ket : ℕ) where
       let same : (i : ℕ) → sumAt bra ket cre ann (cs ∷ cs ∷ []) i ≡ sumAt bra ket cre ann (cs ∷ []) i = λ i. rw (finite-twice (sumTo bra ket cre ann cs (suc i))) in
       λ j. firstRefusal (λ i. same i j) (length cre)
 
-  pub one-of-two : (e f : FloatElement) → toldBy e ≡ floatElement m cre ann (cs ∷ cs ∷ []) bra ket → e ≡ f → onePart (toldBy f) ≡ floatElement m cre ann (cs ∷ []) bra ket
+  pub one-of-two : (e f : FloatElement) → toldBy e ≡ floatElement m cre ann (cs ∷ cs ∷ []) bra ket → e ≡ f
+      → onePart (toldBy f) ≡ floatElement m cre ann (cs ∷ []) bra ket
   one-of-two e f h same = rw (← same, h, inputs-twice, sums-twice) (sym (unless-one _ _ _))

@@ -63,7 +63,8 @@ own f (fin t (suc n) g) s m e p q v =
 low-of : (k l : ℕ) → 2 ^ suc k ≤ 2 ^ l → suc k ≤ l
 low-of k l h = le-of-suc-le-suc (lt-of-not-le (λ (g : suc l ≤ suc k). not-le-of-lt (pow-lt g) h))
 
-small : (f : Format) (s : Bool) (m : ℕ) (e : ℤ) → T (fits f (fin s (suc m) e)) → (suc m < 2 ^ prec f) × (down e ≤ 2 ^ low f) × (suc m * up e < 2 ^ suc (emax f) * down e)
+small : (f : Format) (s : Bool) (m : ℕ) (e : ℤ) → T (fits f (fin s (suc m) e))
+    → (suc m < 2 ^ prec f) × (down e ≤ 2 ^ low f) × (suc m * up e < 2 ^ suc (emax f) * down e)
 unfolding fits
 small f s m e t =
     let a = and-l (eqb (suc m % 2) 1 && ltb (suc m) (2 ^ prec f) && leb (down e) (2 ^ low f)) (ltb (suc m * up e) (2 ^ suc (emax f) * down e)) t in

@@ -128,7 +128,8 @@ unfolding floatTermRefusal
 term-finite m i cre ann c z = finite-there _ i (neither (need (inside m cre ann) (refusal 2 1 i)) _ z .1)
 
 -- where the inputs are not refused, one joining term is answered by its coefficient with its sign
-pub one-joining : (m : ℕ) (cre ann : List ℕ) (parts : List (List Float)) (bra ket i : ℕ) (s : Bool) → Every Doubles parts → inputRefusal m cre ann parts bra ket .number ≡ 0
+pub one-joining : (m : ℕ) (cre ann : List ℕ) (parts : List (List Float)) (bra ket i : ℕ) (s : Bool) → Every Doubles parts
+    → inputRefusal m cre ann parts bra ket .number ≡ 0
     → OnlyJoins bra ket cre ann (length cre) i s
     → floatElement m cre ann parts bra ket ≡ valued (map (λ cs. exactly (signedFloat s (getD cs i nan))) parts)
 unfolding inputRefusal sumRefusal unless

@@ -19,7 +19,8 @@ use Rattle.lent.proofs.NumbersAt.{num-at, num-before}
 use Rattle.lent.proofs.Puts.{put-join}
 
 -- three words make a term
-pub term-of : {a b : ℕ} {x y : ℕ} {c z : ℤ} → a ≡ b → x ≡ y → c ≡ z → _≡_ {A = Term} (record { cre = x; ann = a; coeff = c }) (record { cre = y; ann = b; coeff = z })
+pub term-of : {a b : ℕ} {x y : ℕ} {c z : ℤ} → a ≡ b → x ≡ y → c ≡ z
+    → _≡_ {A = Term} (record { cre = x; ann = a; coeff = c }) (record { cre = y; ann = b; coeff = z })
 term-of p q r = λ i. record { cre = q i; ann = p i; coeff = r i }
 
 pub length-row : (t : Term) → length (rowBytes t) ≡ 24

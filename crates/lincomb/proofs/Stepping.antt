@@ -122,7 +122,8 @@ module _ (minus : Bool) (a : List ℕ) (na i : ℕ) (b : List ℕ) (nb j : ℕ) 
           on = omega arith;
         }
 
-    pub step-level : (w : Term) → w ≡ join t u → before t u ≡ false → before u t ≡ false → Pulled minus a na i b nb j (record { term = w; left = i + 1; right = j + 1 })
+    pub step-level : (w : Term) → w ≡ join t u → before t u ≡ false → before u t ≡ false
+        → Pulled minus a na i b nb j (record { term = w; left = i + 1; right = j + 1 })
     step-level w is e f =
         record {
           front = ap₂ merge (p .left) (p .right) ∙ merge-level t u _ _ e f ∙ ap (λ (x : Term). x ∷ onward minus a na b nb (i + 1) (j + 1)) (sym is);

@@ -121,11 +121,13 @@ module _ (minus : Bool) (room : ℕ) (a b : List ℕ) (r : Written) (after : Lis
       ∙ sum-append (part bra ket) (termsOf a) (map (turn minus) (termsOf b)) ∙ ap (λ (x : ℤ). element bra ket (termsOf a) +ℤ x) (element-turn bra ket minus (termsOf b))
 
 -- ADD: at every bra and ket the element of what is written is the sum of the two records' elements
-pub add-elements : (room : ℕ) (a b : List ℕ) (r : Written) (after : List ℕ) → Gives (added room (readAs 1 a) (readAs 2 b)) r after → r .refusal .number ≡ 0 → (bra ket : ℕ)
+pub add-elements : (room : ℕ) (a b : List ℕ) (r : Written) (after : List ℕ) → Gives (added room (readAs 1 a) (readAs 2 b)) r after
+    → r .refusal .number ≡ 0 → (bra ket : ℕ)
     → element bra ket (termsOf (take (r .len) after)) ≡ element bra ket (termsOf a) +ℤ element bra ket (termsOf b)
 add-elements = sum-elements false
 
 -- SUB: and their difference
-pub sub-elements : (room : ℕ) (a b : List ℕ) (r : Written) (after : List ℕ) → Gives (subtracted room (readAs 1 a) (readAs 2 b)) r after → r .refusal .number ≡ 0 → (bra ket : ℕ)
+pub sub-elements : (room : ℕ) (a b : List ℕ) (r : Written) (after : List ℕ) → Gives (subtracted room (readAs 1 a) (readAs 2 b)) r after
+    → r .refusal .number ≡ 0 → (bra ket : ℕ)
     → element bra ket (termsOf (take (r .len) after)) ≡ element bra ket (termsOf a) +ℤ negℤ (element bra ket (termsOf b))
 sub-elements = sum-elements true

@@ -16,7 +16,8 @@ use Rattle.lincomb.specs.declared.Step.{Step}
 pub one-sum : (room : ℕ) (a b : Operand) (r s : Written) (x y : List ℕ) → Gives (added room a b) r x → Gives (added room a b) s y → (r ≡ s) × (x ≡ y)
 one-sum room a b r s x y = gives-one
 
-pub one-difference : (room : ℕ) (a b : Operand) (r s : Written) (x y : List ℕ) → Gives (subtracted room a b) r x → Gives (subtracted room a b) s y → (r ≡ s) × (x ≡ y)
+pub one-difference : (room : ℕ) (a b : Operand) (r s : Written) (x y : List ℕ) → Gives (subtracted room a b) r x → Gives (subtracted room a b) s y
+    → (r ≡ s) × (x ≡ y)
 one-difference room a b r s x y = gives-one
 
 pub one-turned : (minus : Bool) (t r s : Term) → r ≡ turn minus t → s ≡ turn minus t → r ≡ s

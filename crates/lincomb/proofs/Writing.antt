@@ -46,5 +46,6 @@ module _ (n : ℕ) (whole left : List Term) (len : n ≡ length (dropZeros whole
     writes h next e =
         record {
           small = omega (arith, has-place h);
-          all = split h ∙ sym (append-assoc (take k (termsIn out n)) (t ∷ []) _) ∙ ap (λ (z : List Term). z ++ dropZeros rest) (sym (terms-more out next n k t (has-place h) e));
+          all = split h ∙ sym (append-assoc (take k (termsIn out n)) (t ∷ []) _)
+              ∙ ap (λ (z : List Term). z ++ dropZeros rest) (sym (terms-more out next n k t (has-place h) e));
         }

@@ -132,7 +132,8 @@ bit-none i = bit-above 0 0 i (lit< tt) zero-le
 pub bit-not : (k a p : ℕ) → a < 2 ^ k → p < k → bit ((2 ^ k - 1) - a) p ≡ not (bit a p)
 bit-not zero a p h l = absurd (omega arith)
 bit-not (suc k) a zero h l =
-    bit-zero ((2 ^ suc k - 1) - a) ∙ ap (λ (x : ℕ). eqb x 1) low ∙ by-bit (λ (x : ℕ). eqb (1 - x) 1 ≡ not (eqb x 1)) refl refl (a % 2) (omega arith) ∙ ap not (sym (bit-zero a))
+    bit-zero ((2 ^ suc k - 1) - a) ∙ ap (λ (x : ℕ). eqb x 1) low ∙ by-bit (λ (x : ℕ). eqb (1 - x) 1 ≡ not (eqb x 1)) refl refl (a % 2) (omega arith)
+    ∙ ap not (sym (bit-zero a))
   where
     low : ((2 ^ suc k - 1) - a) % 2 ≡ 1 - a % 2
     low = omega (arith, pow-suc 2 k)

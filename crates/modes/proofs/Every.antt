@@ -44,7 +44,8 @@ pairwise-append P Q R f (x ∷ l) m (beside h hs) k (more p ps) q =
     beside (every-append l m h (every-implies m (λ y. f x y p) q)) (pairwise-append P Q R f l m hs k ps q)
 
 -- a function carries R to Q where it does so for entries that have P
-pub pairwise-map : {A B : Type 0} (P : A → Type 0) (R : A → A → Type 0) (Q : B → B → Type 0) (f : A → B) → ((x y : A) → P x → P y → R x y → Q (f x) (f y)) → (l : List A)
+pub pairwise-map : {A B : Type 0} (P : A → Type 0) (R : A → A → Type 0) (Q : B → B → Type 0) (f : A → B)
+    → ((x y : A) → P x → P y → R x y → Q (f x) (f y)) → (l : List A)
     → Every P l → Pairwise R l → Pairwise Q (map f l)
 pairwise-map P R Q f g [] none nothing = nothing
 pairwise-map P R Q f g (x ∷ l) (more p ps) (beside h hs) =

@@ -67,7 +67,8 @@ one-exchanges (suc j) p v l = go (λ m. one-exchanges j p v m) (lt-or-ge p j)
     more : p < j → exchanges j (bit (2 ^ p)) v + cond (v j) (count j (bit (2 ^ p))) 0 ≡ exchanges j (bit (2 ^ p)) v + cond (v j) 1 0
     more m = rw (count-one j p m)
 
-    go : (p < j → exchanges j (bit (2 ^ p)) v + count (suc p) v ≡ count j v) → (p < j) ⊎ (j ≤ p) → exchanges (suc j) (bit (2 ^ p)) v + count (suc p) v ≡ count (suc j) v
+    go : (p < j → exchanges j (bit (2 ^ p)) v + count (suc p) v ≡ count j v) → (p < j) ⊎ (j ≤ p)
+        → exchanges (suc j) (bit (2 ^ p)) v + count (suc p) v ≡ count (suc j) v
     go rec (inl m) = omega (arith, more m, count-suc j v, rec m)
     go rec (inr m) = let e : j ≡ p = omega arith in rw (exchanges-below (suc j) p v (omega arith), e) (zero-add (count (suc p) v))
 

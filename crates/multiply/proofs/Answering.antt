@@ -58,12 +58,14 @@ module _ (both minus : Bool) (a b : List ℕ) (work room : ℕ) (p : Opened) (ep
   -- refused by the first refusal that there is
   by : (r : Refusal) → r ≡ earlyRefusal both work (readAs 1 a) (readAs 2 b) → (r .number ≡ 0 → ⊥)
       → refusedOutput room r ≡ productAnswer both minus work room (readAs 1 a) (readAs 2 b)
-  by r e h = rw e (refused-earlier room branches (earlyRefusal both work (readAs 1 a) (readAs 2 b)) _ (modesOf a) (normal rows) (λ q. h (ap (λ (x : Refusal). x .number) e ∙ q)))
+  by r e h = rw e (refused-earlier room branches (earlyRefusal both work (readAs 1 a) (readAs 2 b)) _ (modesOf a) (normal rows)
+      (λ q. h (ap (λ (x : Refusal). x .number) e ∙ q)))
 
   pub pair-refused : (p .refusal .number ≡ 0 → ⊥) → refusedOutput room (p .refusal) ≡ productAnswer both minus work room (readAs 1 a) (readAs 2 b)
   pair-refused h =
       let e = shuts a b p ep h in
-      by (p .refusal) (e ∙ sym (or-first (operandsRefusal (readAs 1 a) (readAs 2 b)) (orElse heavy (workRefusal work branches)) (λ q. h (ap (λ (r : Refusal). r .number) e ∙ q)))) h
+      by (p .refusal) (e ∙ sym (or-first (operandsRefusal (readAs 1 a) (readAs 2 b)) (orElse heavy (workRefusal work branches))
+      (λ q. h (ap (λ (r : Refusal). r .number) e ∙ q)))) h
 
   module _ (z : p .refusal .number ≡ 0) where
     ready : Opens a b p

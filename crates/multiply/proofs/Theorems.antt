@@ -99,7 +99,8 @@ module _ (both minus : Bool) (work room : ℕ) (a b : List ℕ) (r : Written) (a
       ∙ all-elements bra ket both minus (termsOf a) (termsOf b) (wider (modesOf a) (left .most) (termsOf a) (left .inside)) (wider (modesOf a) (left .most) (termsOf b) right)
 
 -- THE PRODUCT: at every bra and ket the record left has the element that b and then a give, ladder by ladder
-pub mul-elements : (work room : ℕ) (a b : List ℕ) (r : Written) (after : List ℕ) → Gives (productOf work room (readAs 1 a) (readAs 2 b)) r after → r .refusal .number ≡ 0
+pub mul-elements : (work room : ℕ) (a b : List ℕ) (r : Written) (after : List ℕ) → Gives (productOf work room (readAs 1 a) (readAs 2 b)) r after
+    → r .refusal .number ≡ 0
     → (bra ket : ℕ)
     → element bra ket (termsOf (take (r .len) after)) ≡ inSuccession bra ket (termsOf a) (termsOf b)
 unfolding other

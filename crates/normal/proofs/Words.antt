@@ -48,7 +48,8 @@ unfolding sumOf
 held c a [] n = absurd (n refl)
 held c a (t ∷ ts) n = go (held c a ts) (eqb (t .ann) a && eqb (t .cre) c) refl n
   where
-    go : ((coeffOf c a ts ≡ pos 0 → ⊥) → Held c a ts) → (b : Bool) → eqb (t .ann) a && eqb (t .cre) c ≡ b → (cond b (t .coeff) (pos 0) +ℤ coeffOf c a ts ≡ pos 0 → ⊥)
+    go : ((coeffOf c a ts ≡ pos 0 → ⊥) → Held c a ts) → (b : Bool) → eqb (t .ann) a && eqb (t .cre) c ≡ b
+        → (cond b (t .coeff) (pos 0) +ℤ coeffOf c a ts ≡ pos 0 → ⊥)
         → Held c a (t ∷ ts)
     go rest true e m = inl (eqb-true _ _ (and-l (eqb (t .ann) a) (eqb (t .cre) c) e), eqb-true _ _ (and-r (eqb (t .ann) a) (eqb (t .cre) c) e))
     go rest false e m = inr (rest (λ z. m (+ℤ-idl (coeffOf c a ts) ∙ z)))

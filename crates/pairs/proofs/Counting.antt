@@ -77,7 +77,8 @@ module _ (cre ann : ℕ) where
   one-weighs n [] nothing none = omega arith
   one-weighs n (r ∷ rs) (beside d ds) (more h hs) = go (one-weighs n rs ds hs) (eqb (r .ann) ann) (eqb (r .cre) cre) refl refl
     where
-      go : keyWeight cre ann rs ≤ n → (x y : Bool) → eqb (r .ann) ann ≡ x → eqb (r .cre) cre ≡ y → natAbs (cond (x && y) (r .coeff) (pos 0)) + keyWeight cre ann rs ≤ n
+      go : keyWeight cre ann rs ≤ n → (x y : Bool) → eqb (r .ann) ann ≡ x → eqb (r .cre) cre ≡ y
+          → natAbs (cond (x && y) (r .coeff) (pos 0)) + keyWeight cre ann rs ≤ n
       go later true true p q = omega (arith, h, apart r rs (eqb-true _ _ q) (eqb-true _ _ p) d)
       go later true false p q = omega (arith, later)
       go later false y p q = omega (arith, later)
@@ -119,7 +120,8 @@ module _ (cre ann : ℕ) where
           mul-assoc 2 (natAbs (t .coeff)) (natAbs (u .coeff)),
         )
       where
-        at : (b : Bool) → keyWeight cre ann (cond b (rowsTimes (u .cre) (u .ann) (t .cre) (t .ann) (signed minus (t .coeff *ℤ u .coeff))) []) ≤ natAbs (t .coeff *ℤ u .coeff)
+        at : (b : Bool) → keyWeight cre ann (cond b (rowsTimes (u .cre) (u .ann) (t .cre) (t .ann) (signed minus (t .coeff *ℤ u .coeff))) [])
+            ≤ natAbs (t .coeff *ℤ u .coeff)
         at true = rw (abs-signed minus (t .coeff *ℤ u .coeff)) at (product-weighs (u .cre) (u .ann) (t .cre) (t .ann) (signed minus (t .coeff *ℤ u .coeff)))
         at false = omega arith
 

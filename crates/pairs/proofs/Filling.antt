@@ -168,7 +168,8 @@ module _ {A : List Term} {l : List ℕ} {s : Fill} {m : List ℕ} {one : Fill} (
               let used : r .used ≡ 24 * j = omega (arith, u, b, ends ts f k count) in
               let before : k + length B ≡ j + 1 = omega (arith, u, b, ends ts f k count) in
               let last : rowsAt n 0 j ++ (rowAt n (r .used) ∷ []) ≡ rowsAt m 0 k ++ B =
-              ap (λ (z : ℕ). rowsAt n 0 j ++ (rowAt n z ∷ [])) (used ∙ sym (zero-add (24 * j))) ∙ sym (rows-more n 0 j) ∙ ap (rowsAt n 0) (sym before) ∙ d k (ends ts f k count) in
+              ap (λ (z : ℕ). rowsAt n 0 j ++ (rowAt n z ∷ [])) (used ∙ sym (zero-add (24 * j))) ∙ sym (rows-more n 0 j) ∙ ap (rowsAt n 0) (sym before)
+              ∙ d k (ends ts f k count) in
               record {
                 room = settled-room (filling.fits a b c d) (cancelled u v w y);
                 held = settled-held ts f a v;

@@ -144,7 +144,8 @@ pub term-is : (cre ann w : ℕ) (s : Bool) → cre < 2 ^ 64 → ann < 2 ^ 64
     → term cre ann (went w s) ≡ cond (acts cre ann w) (went (bitXor (bitXor w ann) cre) (s ⊕ signOf cre ann w)) gone
 unfolding term
 term-is cre ann w s hc ha =
-    ap (ladders false 64 cre) (ladders-is true 64 ann w s ∙ ap (λ (x : ℕ). cond (ready true 64 ann w) (went x (s ⊕ oddExchanges 64 (bit w) (bit ann))) gone) (flips-is 64 ann w ha))
+    ap (ladders false 64 cre) (ladders-is true 64 ann w s
+    ∙ ap (λ (x : ℕ). cond (ready true 64 ann w) (went x (s ⊕ oddExchanges 64 (bit w) (bit ann))) gone) (flips-is 64 ann w ha))
     ∙ go (ready true 64 ann w)
   where
     go : (b : Bool) → ladders false 64 cre (cond b (went (bitXor w ann) (s ⊕ oddExchanges 64 (bit w) (bit ann))) gone)

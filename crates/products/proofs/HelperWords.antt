@@ -33,7 +33,8 @@ pub lowest-sign : (Lc La Rc Ra x y u v : ℕ)
 lowest-sign Lc La Rc Ra x y u v p q r s =
     odd-xor 64 (bitXor (bitXor x y) u) v
     ∙ ap₂ (λ (a b : Bool). a ⊕ b)
-    (odd-xor 64 (bitXor x y) u ∙ ap₂ (λ (a b : Bool). a ⊕ b) (odd-xor 64 x y ∙ ap₂ (λ (a b : Bool). a ⊕ b) p (q ∙ ap (λ (w : Modes). oddExchanges 64 w (bit La)) (bits-xor Ra Rc)))
+    (odd-xor 64 (bitXor x y) u ∙ ap₂ (λ (a b : Bool). a ⊕ b)
+    (odd-xor 64 x y ∙ ap₂ (λ (a b : Bool). a ⊕ b) p (q ∙ ap (λ (w : Modes). oddExchanges 64 w (bit La)) (bits-xor Ra Rc)))
     (r ∙ ap (λ (w : Modes). oddExchanges 64 w (bit Lc)) (bits-xor (bitXor Ra Rc) La ∙ ap (λ (w : Modes). w △ bit La) (bits-xor Ra Rc)))
     ∙ ⊕-assoc _ _ _)
     (s ∙ ap₂ (λ (a c : ℕ). oddExchanges 64 (bit a) (bit c)) (sym (or-zero-r _)) (sym (or-zero-r _)))
@@ -60,7 +61,8 @@ module _ (Lc La Rc Ra : ℕ) (hLc : Lc < 2 ^ 64) (hLa : La < 2 ^ 64) (hRc : Rc <
       (no-mode created p _ e (and-not Lc Rc La p hLc hLa)) (no-mode annihilated p _ f (and-not La Ra Rc p hLa hRc)))
 
   -- a product that is not empty has no such mode
-  none-where : (w : ℕ) (f : ℕ → Bool) → ((p : ℕ) → bit w p ≡ f p) → ((p : ℕ) → 64 ≤ p → f p ≡ false) → ((p : ℕ) → p < 64 → f p ≡ false) → w ≡ 0
+  none-where : (w : ℕ) (f : ℕ → Bool) → ((p : ℕ) → bit w p ≡ f p) → ((p : ℕ) → 64 ≤ p → f p ≡ false) → ((p : ℕ) → p < 64 → f p ≡ false)
+      → w ≡ 0
   none-where w f is high low = ext _ _ (λ p. is p ∙ at p (lt-or-ge p 64) ∙ sym (bit-none p))
     where
       at : (p : ℕ) → (p < 64) ⊎ (64 ≤ p) → f p ≡ false

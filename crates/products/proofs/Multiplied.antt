@@ -55,7 +55,8 @@ module _ (Lc La Rc Ra : ℕ) where
       rw (rows-none (pos 1) e, e) (λ i. record { answer = refused none; bytes = zeros (all i) })
 
   -- not empty, and no room
-  pub seven-is : (room : ℕ) → notEmpty Lc La Rc Ra ≡ true → room < 24 * 2 ^ count 64 (branching Lc La Rc Ra) → refusedOutput room (refusal 7 0 0) ≡ multiplied Lc La Rc Ra room
+  pub seven-is : (room : ℕ) → notEmpty Lc La Rc Ra ≡ true → room < 24 * 2 ^ count 64 (branching Lc La Rc Ra)
+      → refusedOutput room (refusal 7 0 0) ≡ multiplied Lc La Rc Ra room
   unfolding multiplied
   seven-is room e l = rw (e, lt-ltb room _ l)
 

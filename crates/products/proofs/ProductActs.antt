@@ -88,7 +88,8 @@ module _ (Lc La Rc Ra : ℕ) where
         sign : (false ⊕ signOf Rc Ra k) ⊕ signOf Lc La (middle k) ≡ shared k
         sign = ap (λ (x : Bool). x ⊕ signOf Lc La (middle k)) (false-⊕ (signOf Rc Ra k)) ∙ then-sign k
 
-        go : (b : Bool) → term Lc La (cond b (went (bitXor (bitXor k Ra) Rc) (false ⊕ signOf Rc Ra k)) gone) ≡ cond (b && acts Lc La (middle k)) (went (last k) (shared k)) gone
+        go : (b : Bool) → term Lc La (cond b (went (bitXor (bitXor k Ra) Rc) (false ⊕ signOf Rc Ra k)) gone)
+            ≡ cond (b && acts Lc La (middle k)) (went (last k) (shared k)) gone
         go true =
             term-is Lc La (bitXor (bitXor k Ra) Rc) (false ⊕ signOf Rc Ra k) hLc hLa
             ∙ ap (λ (x : Bool). cond (acts Lc La (middle k)) (went (last k) x) gone) sign
@@ -194,6 +195,7 @@ module _ (Lc La Rc Ra : ℕ) where
     unfolding rowsTimes sumOf
     product-acts bra ket z = go full refl
       where
-        go : (b : Bool) → full ≡ b → element bra ket (cond b (map (rowTimes Lc La Rc Ra z) (choices 64 0 branches 0)) []) ≡ adds bra z (term Lc La (term Rc Ra (went ket false)))
+        go : (b : Bool) → full ≡ b → element bra ket (cond b (map (rowTimes Lc La Rc Ra z) (choices 64 0 branches 0)) [])
+            ≡ adds bra z (term Lc La (term Rc Ra (went ket false)))
         go true e = sum-map (part bra ket) (rowTimes Lc La Rc Ra z) (choices 64 0 branches 0) ∙ rows-act (good-from e) hLc hLa hRc hRa bra ket z
         go false e = sym (ap (adds bra z) (empty-acts hLc hLa hRc hRa ket e))

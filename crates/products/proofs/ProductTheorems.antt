@@ -50,7 +50,8 @@ module _ (Lc La Rc Ra : ℕ) where
   kept-by S h p =
       ap (λ (x : Bool). x && branching Lc La Rc Ra p) (bit-cre Lc La Rc Ra S p) ∙ kept-digit (bit Lc p) (bit La p) (bit Rc p) (bit Ra p) (bit S p) (h .inside p)
 
-  other-rows : (z : ℤ) (S T : ℕ) → Part 64 (branching Lc La Rc Ra) S → Part 64 (branching Lc La Rc Ra) T → (S ≡ T → ⊥) → Other (rowTimes Lc La Rc Ra z S) (rowTimes Lc La Rc Ra z T)
+  other-rows : (z : ℤ) (S T : ℕ) → Part 64 (branching Lc La Rc Ra) S → Part 64 (branching Lc La Rc Ra) T → (S ≡ T → ⊥)
+      → Other (rowTimes Lc La Rc Ra z S) (rowTimes Lc La Rc Ra z T)
   other-rows z S T h k n c a =
       n (ext S T (λ p. sym (kept-by S h p) ∙ ap (λ (w : ℕ). bit w p && branching Lc La Rc Ra p) c ∙ kept-by T k p))
 

@@ -63,5 +63,6 @@ pub row-sign : (n : ℕ) (o x : Bool) (k a c : Modes)
 row-sign n o x k a c = simp (odd-exchanges-△-l, odd-exchanges-△-r, parity-sum)
 
 -- a row that keeps the modes d too
-pub more-sign : (n : ℕ) (a c d : Modes) → oddExchanges n d d ≡ false → oddExchanges n (a △ d) (c △ d) ≡ oddExchanges n a c ⊕ (oddExchanges n d c ⊕ oddExchanges n a d)
+pub more-sign : (n : ℕ) (a c d : Modes) → oddExchanges n d d ≡ false
+    → oddExchanges n (a △ d) (c △ d) ≡ oddExchanges n a c ⊕ (oddExchanges n d c ⊕ oddExchanges n a d)
 more-sign n a c d e = simp (odd-exchanges-△-l, odd-exchanges-△-r, e, parity-sum)

@@ -74,7 +74,8 @@ part-more {p} {B} {S} h l e =
     inn i false q = rw (added S p i, q, ⊕-false (bit S i)) (h .inside i)
 
 -- two functions that agree on the parts of B have one sum
-pub sum-cong : (n p : ℕ) (B : Modes) (S : ℕ) (f g : ℕ → ℤ) → p + n ≡ 64 → Part p B S → ((q S : ℕ) → Part q B S → f S ≡ g S) → sumOf f (choices n p B S) ≡ sumOf g (choices n p B S)
+pub sum-cong : (n p : ℕ) (B : Modes) (S : ℕ) (f g : ℕ → ℤ) → p + n ≡ 64 → Part p B S → ((q S : ℕ) → Part q B S → f S ≡ g S)
+    → sumOf f (choices n p B S) ≡ sumOf g (choices n p B S)
 unfolding choices sumOf
 sum-cong zero p B S f g k h e = ap (λ (x : ℤ). x +ℤ pos 0) (e p S h)
 sum-cong (suc n) p B S f g k h e = go (λ S h. sum-cong n (suc p) B S f g (omega arith) h e) (B p) refl

@@ -66,5 +66,6 @@ module _ (l : List ℕ) (at : ℕ) (r s : ℕ) (x y : List ℕ) where
       → (s ≡ at + 24 * length (rowsOf h z)) × (y ≡ put l at (rowsBytes (rowsOf h z))) → (r ≡ s) × (x ≡ y)
   one-put-rows h z = one-rows l at _ (rowsOf h z) r s x y
 
-pub one-product : (Lc La Rc Ra room : ℕ) (r s : Written) (x y : List ℕ) → Gives (multiplied Lc La Rc Ra room) r x → Gives (multiplied Lc La Rc Ra room) s y → (r ≡ s) × (x ≡ y)
+pub one-product : (Lc La Rc Ra room : ℕ) (r s : Written) (x y : List ℕ) → Gives (multiplied Lc La Rc Ra room) r x
+    → Gives (multiplied Lc La Rc Ra room) s y → (r ≡ s) × (x ≡ y)
 one-product Lc La Rc Ra room r s x y = gives-one

@@ -1,4 +1,4 @@
--- Terms at their columns: what is put there is read there, what is sorted there, and what finishes the record.
+-- Terms at their columns: what is put there is read there, and what finishes the record.
 use mathlib.Core.Path.{_≡_, refl, sym, ap, ap₂, _∙_}
 use mathlib.Core.List.{List, [], _∷_, _++_, map}
 use mathlib.Core.Logic.{_⊎_, inl, inr}
@@ -15,14 +15,12 @@ use Rattle.lent.specs.Rows.{Fit}
 use Rattle.lent.specs.Outputs.{filledOutput, Gives}
 use Rattle.lent.proofs.Numbers.{length-bytes}
 use Rattle.lent.proofs.Puts.{length-put}
-use Rattle.rows.specs.Terms.{at}
-use Rattle.rows.specs.Apart.{Apart}
-use Rattle.rows.specs.Places.{termIn, putIn, termsPlaced}
-use Rattle.rows.specs.Sorted.{Arranged, Sorted}
-use Rattle.rows.proofs.Choices.{same-or}
-use Rattle.rows.proofs.UpTo.{up-to-at, up-to-same}
-use Rattle.rows.proofs.InPlaces.{put-same, put-other}
-use Rattle.rows.proofs.SortedTerms.{arranged}
+use Rattle.places.specs.Terms.{at}
+use Rattle.places.specs.Apart.{Apart}
+use Rattle.places.specs.Places.{termIn, putIn, termsPlaced}
+use Rattle.places.proofs.Choices.{same-or}
+use Rattle.places.proofs.UpTo.{up-to-at, up-to-same}
+use Rattle.places.proofs.InPlaces.{put-same, put-other}
 use Rattle.record.specs.Numbers.{stored}
 use Rattle.record.specs.Layout.{recordLength, header, column, encode, termsIn, columnPlaces}
 use Rattle.record.specs.Reading.{Holds}
@@ -46,14 +44,11 @@ at-head ts us t i e =
     let z : i + 0 ≡ i = omega arith in
     ap (λ (k : ℕ). at ts k) (sym z) ∙ sym (getD-drop i ts 0 _) ∙ ap (λ (vs : List Term). at vs 0) e
 
-at-columns : (l : List ℕ) (n : ℕ) → termsPlaced (columnPlaces n) l n ≡ termsIn l n
+pub at-columns : (l : List ℕ) (n : ℕ) → termsPlaced (columnPlaces n) l n ≡ termsIn l n
 unfolding termIn
 at-columns l n =
     up-to-same (termIn (columnPlaces n) l) (at (termsIn l n)) n (λ k h. sym (at-head (termsIn l n) _ _ k (term-at l n k h)))
     ∙ up-to-at (termsIn l n) n (length-terms l n)
-
-pub sorted-terms : (n : ℕ) (l m : List ℕ) → Sorted (columnPlaces n) n l m → Arranged n (termsIn l n) (termsIn m n)
-sorted-terms n l m s = rw (at-columns l n, at-columns m n) at (arranged s)
 
 -- a term put at its place is read there, and the others are as they were
 pub term-put : (l m : List ℕ) (n k : ℕ) (t : Term) → Holds l n → k < n → Fit t → m ≡ putIn (columnPlaces n) l k t → termsIn m n ≡ set (termsIn l n) k t

@@ -93,7 +93,8 @@ same-numbers [] [] e = refl
 same-numbers [] (y ∷ ys) e = let z : _≡_ {A = ℕ} 0 1 = cc in absurd (omega arith)
 same-numbers (x ∷ xs) [] e = let z : _≡_ {A = ℕ} 0 1 = cc in absurd (omega arith)
 same-numbers (x ∷ xs) (y ∷ ys) e =
-    ap₂ {C = List ℕ} (λ (z : ℕ) (zs : List ℕ). z ∷ zs) (eqb-true x y (and-l (eqb x y) (sameNumbers xs ys) e)) (same-numbers xs ys (and-r (eqb x y) (sameNumbers xs ys) e))
+    ap₂ {C = List ℕ} (λ (z : ℕ) (zs : List ℕ). z ∷ zs) (eqb-true x y (and-l (eqb x y) (sameNumbers xs ys) e))
+    (same-numbers xs ys (and-r (eqb x y) (sameNumbers xs ys) e))
 
 pub numbers-same : (xs : List ℕ) → sameNumbers xs xs ≡ true
 unfolding sameNumbers

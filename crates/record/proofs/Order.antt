@@ -12,8 +12,8 @@ use Rattle.modes.proofs.Bools.{and-l, and-r}
 use Rattle.modes.proofs.Digits.{lt-or-ge}
 use Rattle.modes.specs.Every.{none, more}
 use Rattle.lent.specs.Rows.{Fit}
-use Rattle.rows.specs.Order.{key}
-use Rattle.rows.proofs.Keys.{key-low, key-high}
+use Rattle.places.specs.Order.{key}
+use Rattle.places.proofs.Keys.{key-low, key-high}
 use Rattle.record.specs.Terms.{before, Above}
 
 -- how two terms stand to each other

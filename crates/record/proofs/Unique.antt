@@ -1,4 +1,4 @@
--- No two answers meet a promise of this crate but that of `sort_terms`, which leaves open in which order terms of one key come to stand: what it fixes is `one-sums` of crate rows.
+-- No two answers meet a promise of this crate.
 use mathlib.Core.Path.{_≡_, sym, _∙_}
 use mathlib.Core.Bool.{Bool}
 use mathlib.Core.List.{List, _∷_}
@@ -10,8 +10,9 @@ use Rattle.modes.specs.declared.Written.{Written}
 use Rattle.modes.proofs.Unique.{one}
 use Rattle.lent.specs.Outputs.{filledOutput, Gives}
 use Rattle.lent.proofs.Outputs.{gives-one}
+use Rattle.places.specs.declared.Places.{Places}
 use Rattle.record.specs.Terms.{before}
-use Rattle.record.specs.Layout.{encode, termsIn, recordLength, totalOf}
+use Rattle.record.specs.Layout.{encode, termsIn, recordLength, totalOf, columnPlaces}
 use Rattle.record.specs.Refusals.{checkedOf}
 use Rattle.record.specs.Reading.{At}
 use Rattle.record.specs.Weights.{heavierBy}
@@ -28,6 +29,9 @@ one-check o l r s = one
 
 pub one-length : (n r s : ℕ) → r ≡ recordLength n → s ≡ recordLength n → r ≡ s
 one-length n r s = one
+
+pub one-columns : (n : ℕ) (r s : Places) → r ≡ columnPlaces n → s ≡ columnPlaces n → r ≡ s
+one-columns n r s = one
 
 -- a list has one i-th term
 pub one-term : (l : List ℕ) (n i : ℕ) (r s : Term) → At (termsIn l n) i r → At (termsIn l n) i s → r ≡ s

@@ -9,7 +9,7 @@ use mir.Val.{toZ, ofZ}
 use Rattle.modes.specs.declared.Term.{Term}
 use Rattle.modes.specs.Spaces.{spaceOf, isMade}
 use Rattle.lent.specs.Bytes.{halfAt}
-use Rattle.rows.specs.declared.Places.{Places}
+use Rattle.places.specs.declared.Places.{Places}
 use Rattle.record.specs.Numbers.{stored, numbers, sameNumbers}
 
 -- how many bytes a record of n terms has

@@ -4,7 +4,7 @@ use modes::ModeSpace;
 use modes::Refusal;
 use modes::Term;
 use modes::Written;
-use rows::Places;
+use places::Places;
 ghost use mathlib.Core.Path.{_≡_};
 ghost use mathlib.Core.Bool.{true, false, _||_};
 ghost use Prim.Native.Nat.{_+_, _*_, _-_, _≤_, _<_, _^_};
@@ -18,7 +18,6 @@ ghost use Rattle.record.specs.Layout.{fields, header, modesOf, countOf, 
 ghost use Rattle.record.specs.Refusals.{termRefusal, refusedRecord, checkedOf};
 ghost use Rattle.record.specs.Reading.{At, Holds};
 ghost use Rattle.lent.specs.Outputs.{Gives, filledOutput};
-ghost use Rattle.rows.specs.Sorted.{Arranged};
 ghost use Rattle.modes.specs.Counts.{count};
 ghost use Rattle.record.specs.Weights.{heavierBy};
 ghost use Rattle.record.specs.Counting.{countIf, earlier};
@@ -140,8 +139,8 @@ fn laid_out(s: &[u8]) -> bool
 }
 
 // Where the columns of n terms lie.
-fn column_places(n: usize) -> Places
-    requires { ⌜ n < 2 ^ 32 ⌝ }
+pub fn column_places(n: usize) -> Places
+    requires { ⌜ n < 2 ^ 59 ⌝ }
     ensures { λ r. ⌜ r ≡ columnPlaces n ⌝ }
 {
     Places {
@@ -306,17 +305,7 @@ pub fn put_term(out: &mut [u8], n: usize, k: usize, t: Term)
     requires { ⌜ Holds (now out) n × (k < n) ⌝ }
     ensures { λ _. ⌜ termsIn (now (out .exit)) n ≡ set (termsIn (now (out .entry)) n) k t ⌝ }
 {
-    lent::put_word(out, 32 + 8 * k, t.ann);
-    lent::put_word(out, 32 + 8 * n + 8 * k, t.cre);
-    lent::put_word(out, 32 + 16 * n + 8 * k, integers::bits(t.coeff));
-}
-
-// The n terms that were put there, sorted where they stand.
-pub fn sort_terms(out: &mut [u8], n: usize)
-    requires { ⌜ Holds (now out) n × (n ≤ 2048) ⌝ }
-    ensures { λ _. ⌜ Arranged n (termsIn (now (out .entry)) n) (termsIn (now (out .exit)) n) ⌝ }
-{
-    rows::sort(out, column_places(n), n);
+    places::put(out, column_places(n), k, t);
 }
 
 // The n terms that were put there become the record on m modes: the header in front of them, and zeros past them.

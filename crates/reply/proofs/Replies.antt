@@ -88,7 +88,8 @@ module _ {room held : ℕ} {a : Written} {after work : List ℕ} where
       }
 
   -- of a refusal, the line
-  pub line-told : {o : Output} {mid : List ℕ} {n r : ℕ} → n ≡ room → Leaves o a mid held work → (a .refusal .number ≡ 0 → ⊥) → Says (lineIn n (a .refusal)) n r after
+  pub line-told : {o : Output} {mid : List ℕ} {n r : ℕ} → n ≡ room → Leaves o a mid held work → (a .refusal .number ≡ 0 → ⊥)
+      → Says (lineIn n (a .refusal)) n r after
       → Replies (textOf room o) room r after held work
   unfolding textOf
   line-told {o} {mid} {n} {r} e g h s =

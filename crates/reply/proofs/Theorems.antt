@@ -70,7 +70,8 @@ module _ (work room : ℕ) where
     short-first : holdsFirst input ≡ false → refusalOf 1 (firstOf input) ≡ refusal 1 1 0
     unfolding numbers
     short-first h =
-        not-laid 1 (firstOf input) (λ k. ⊎-elim (λ less. absurd (omega (arith, k .size, length-take (totalOf input) input))) (λ there. beyond k there) (lt-or-ge (length input) 32))
+        not-laid 1 (firstOf input) (λ k. ⊎-elim (λ less. absurd (omega (arith, k .size, length-take (totalOf input) input))) (λ there. beyond k there)
+        (lt-or-ge (length input) 32))
       where
         beyond : Laid (firstOf input) → 32 ≤ length input → ⊥
         beyond k there =
@@ -111,7 +112,8 @@ module _ (work room : ℕ) where
       let one : refusalOf 1 (firstOf l) ≡ refusal 1 1 0 = too-long 1 (firstOf l) (omega (arith, length-take (totalOf l) l)) in
       first-refused l (λ z. absurd (omega (arith, ap (λ (r : Refusal). r .number) one))) ∙ ap (refusedOutput room) one
 
-  second-long : (l : List ℕ) → 98369 ≤ length l → totalOf l ≤ 49184 → (refusalOf 1 (firstOf l)) .number ≡ 0 → answerTo work room l ≡ refusedOutput room (refusal 1 2 0)
+  second-long : (l : List ℕ) → 98369 ≤ length l → totalOf l ≤ 49184 → (refusalOf 1 (firstOf l)) .number ≡ 0
+      → answerTo work room l ≡ refusedOutput room (refusal 1 2 0)
   second-long l h t z =
       let one : refusalOf 2 (secondOf l) ≡ refusal 1 2 0 = too-long 2 (secondOf l) (omega (arith, length-drop (totalOf l) l)) in
       second-refused l z (λ q. absurd (omega (arith, ap (λ (r : Refusal). r .number) one))) ∙ ap (refusedOutput room) one
@@ -163,7 +165,8 @@ module _ (work room : ℕ) (input : List ℕ) where
     unfolding answerTo
     not-short = go (holdsFirst input) z
       where
-        go : (s : Bool) → (cond s (commutatorOf work room (readAs 1 (firstOf input)) (readAs 2 (secondOf input))) (refusedOutput room (refusal 1 1 0))) .answer .refusal .number ≡ 0
+        go : (s : Bool) → (cond s (commutatorOf work room (readAs 1 (firstOf input)) (readAs 2 (secondOf input)))
+            (refusedOutput room (refusal 1 1 0))) .answer .refusal .number ≡ 0
             → cond s (commutatorOf work room (readAs 1 (firstOf input)) (readAs 2 (secondOf input))) (refusedOutput room (refusal 1 1 0)) ≡ commutatorOf work room
             (readAs 1 (firstOf input)) (readAs 2 (secondOf input))
         go true y = refl
@@ -184,7 +187,8 @@ module _ (work room : ℕ) (input : List ℕ) where
   unfolding textOf
   told h = go (eqb (answer .answer .refusal .number) 0) refl
     where
-      go : (s : Bool) → eqb (answer .answer .refusal .number) 0 ≡ s → Reported input (cond s (take (answer .answer .len) (answer .bytes)) (lineIn room (answer .answer .refusal)))
+      go : (s : Bool) → eqb (answer .answer .refusal .number) 0 ≡ s
+          → Reported input (cond s (take (answer .answer .len) (answer .bytes)) (lineIn room (answer .answer .refusal)))
       go true e = result (is-commutator (eqb-true _ _ e))
       go false e =
           line (answer .answer .refusal) (eqb-false _ _ e)

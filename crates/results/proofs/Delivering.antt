@@ -29,7 +29,8 @@ Weighing l n w i = Weighs w (weight (rowsAt l (24 * i) (n - i))) (weight (rowsAt
 pub weighing-starts : (l : List ℕ) (n : ℕ) → Weighing l n 0 0
 weighing-starts l n = let e : n - 0 ≡ n = omega arith in rw e (weighs-start (weight (rowsAt l 0 n)))
 
-pub weighing-goes : (l : List ℕ) (n w i k v : ℕ) (t : Term) → Weighing l n w i → i < n → t ≡ rowAt l (24 * i) → k ≡ natAbs (t .coeff) → v ≡ heavierBy k w → Weighing l n v (i + 1)
+pub weighing-goes : (l : List ℕ) (n w i k v : ℕ) (t : Term) → Weighing l n w i → i < n → t ≡ rowAt l (24 * i) → k ≡ natAbs (t .coeff)
+    → v ≡ heavierBy k w → Weighing l n v (i + 1)
 weighing-goes l n w i k v t g h et ek ev =
     let front : weight (rowsAt l (24 * i) (n - i)) ≡ k + weight (rowsAt l (24 * (i + 1)) (n - (i + 1))) =
     weight-front _ _ (rowAt l (24 * i)) (rows-next l i n h) ∙ ap (λ (x : ℕ). x + weight (rowsAt l (24 * (i + 1)) (n - (i + 1))))

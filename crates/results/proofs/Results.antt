@@ -62,7 +62,14 @@ module _ (a b : List ℕ) (p : Checked) (ep : p ≡ checkedOf 1 a) where
           (second-refuses (refusalOf 2 b) modesDiffer shut _ (right .number) (λ e. absurd (omega arith))))
 
       pub both-open : p .modes ≡ q .modes
-          → _≡_ {A = Opened} (record { refusal = none; modes = p .modes; left = p .terms; right = q .terms; «left_weight» = p .weight; «right_weight» = q .weight }) (openedOf a b)
+          → _≡_ {A = Opened} (record {
+            refusal = none;
+            modes = p .modes;
+            left = p .terms;
+            right = q .terms;
+            «left_weight» = p .weight;
+            «right_weight» = q .weight;
+          }) (openedOf a b)
       both-open h =
           second-decides _ (rw (eq-eqb (modesOf a) (modesOf b) (sym modes-a ∙ h ∙ modes-b), left .is, right .is)
           (neither-refuses (refusalOf 2 b) none shut (standing a b) (right .number) refl))
@@ -169,7 +176,8 @@ verdict-same room ts r g =
 -- ---- the output of a call that is not refused
 
 -- the normal form of terms that hold only modes below m is a canonical form
-pub result-canonical : (m : ℕ) (ts : List Term) → 1 ≤ m → m ≤ 64 → Every (Inside m) ts → (room : ℕ) → (resultRefusal room (length (normal ts)) (weight (normal ts))) .number ≡ 0
+pub result-canonical : (m : ℕ) (ts : List Term) → 1 ≤ m → m ≤ 64 → Every (Inside m) ts → (room : ℕ)
+    → (resultRefusal room (length (normal ts)) (weight (normal ts))) .number ≡ 0
     → Canonical m (normal ts)
 result-canonical m ts some most within room z =
     let d = deliverable room (length (normal ts)) (weight (normal ts)) z in

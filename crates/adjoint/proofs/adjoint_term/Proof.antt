@@ -30,7 +30,8 @@ returns c =
     let small : SFits w64 (c .signed-coeff .result) = record { sfits = c .signed-coeff .ok } in
     adjoint-made (c .before .before .before .before .before .args .t) _ _ _ _ (c .before .before .before .before .pairs-in .ensures .0)
     (c .before .before .before .pairs-in2 .ensures .0) (c .before .before .from-exchanges .ensures)
-    (toZ-ofZ small ∙ c .signed-coeff .ensures ∙ ap (signed (c .before .before .from-exchanges .result .0)) (toZ-ofZ (abs-fits _ (c .before .before .before .before .before .pre))))
+    (toZ-ofZ small ∙ c .signed-coeff .ensures
+    ∙ ap (signed (c .before .before .from-exchanges .result .0)) (toZ-ofZ (abs-fits _ (c .before .before .before .before .before .pre))))
 
 pub adjoint-term-spec : {M : Type 1} → statement M
 adjoint-term-spec =

@@ -49,8 +49,11 @@ loop-again : tie.Need-loop-again Inv-loop μ-loop
 loop-again c =
     let s = c .before .before .before .before .before .before in
     let l = c .before .before .before .loop in
-    let small : SFits w64 (c .sum-parts .result) = record { sfits = c .sum-parts .ok } in
-    (search needs, fills-word _ _ (s .args .basis .now) (s .pre .1) (l .j) (l .entries) (l .inv .1) _ (c .before .before .loop-test .taken) (toZ-ofZ small ∙ c .sum-parts .ensures))
+    let small : SFits w64 (c .sum-parts .result) = record { sfits = c .sum-parts .ok } in (
+      search needs,
+      fills-word _ _ (s .args .basis .now) (s .pre .1) (l .j) (l .entries) (l .inv .1) _ (c .before .before .loop-test .taken)
+          (toZ-ofZ small ∙ c .sum-parts .ensures),
+    )
 
 returns : tie.Need-returns Inv-loop μ-loop
 unfolding rowOf

@@ -14,7 +14,8 @@ use Rattle.pairs.proofs.append_with.Statement.{statement}
 use Rattle.pairs.proofs.append_with.Tie as tie
 
 abbrev Inv-loop : tie.InvT-loop
-Inv-loop both sign work₀ t b n at₀ j₀ work at j = (j ≤ n) × Progress (rowsWith both (sign .0) t (termsIn b n)) (rowsWith both (sign .0) t (drop j (termsIn b n))) work₀ at₀ work at
+Inv-loop both sign work₀ t b n at₀ j₀ work at j = (j ≤ n) × Progress (rowsWith both (sign .0) t (termsIn b n))
+    (rowsWith both (sign .0) t (drop j (termsIn b n))) work₀ at₀ work at
 
 abbrev μ-loop : tie.MeasureT-loop
 μ-loop both sign work₀ t b n at₀ j₀ work at j = n - j

@@ -28,7 +28,8 @@ returns c =
     let s = at-put-rows .before .before .before in
     let put = at-put-rows .put-rows in
     let h = s .args .helper in
-    gives-rows (h .«l_cre») (h .«l_ann») (h .«r_cre») (h .«r_ann») (s .args .out .now) (s .pre .full) (rows-room h _ (s .fits .left .fits) (length (s .args .out .now)) (s .pre))
+    gives-rows (h .«l_cre») (h .«l_ann») (h .«r_cre») (h .«r_ann») (s .args .out .now) (s .pre .full)
+    (rows-room h _ (s .fits .left .fits) (length (s .args .out .now)) (s .pre))
     (put .result) _ (put .last .0) _ (put .ensures .0) (put .ensures .1) (put .kept .0) refl (at-wipe-from .wipe-from .ensures)
 
 pub write-rows-spec : {M : Type 1} → statement M
