@@ -13,9 +13,9 @@ use Rattle.integers.proofs.SignedNumbers.{abs-fits}
 use Rattle.lent.specs.Rows.{Fit}
 use Rattle.places.specs.Terms.{at}
 use Rattle.places.specs.Order.{key}
-use Rattle.sort.specs.Sorted.{Arranged, Sorted}
+use Rattle.quicksort.specs.Sorted.{Arranged, Sorted}
 use Rattle.places.proofs.UpTo.{every-at}
-use Rattle.sort.proofs.SortedTerms.{arranged, sum-kept, every-kept}
+use Rattle.quicksort.proofs.SortedTerms.{arranged, sum-kept, every-kept}
 use Rattle.record.specs.Terms.{before, Ascending}
 use Rattle.record.specs.Layout.{termsIn, columnPlaces}
 use Rattle.record.specs.Canonical.{Nonzero, Canonical}

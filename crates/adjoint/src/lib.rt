@@ -13,7 +13,7 @@ ghost use Rattle.modes.specs.Words.{bit};
 ghost use Rattle.modes.specs.Counts.{count, pairs};
 ghost use Rattle.modes.specs.Every.{Every};
 ghost use Rattle.lent.specs.Outputs.{Gives, filledOutput};
-ghost use Rattle.sort.specs.Sorted.{Arranged};
+ghost use Rattle.quicksort.specs.Sorted.{Arranged};
 ghost use Rattle.record.specs.Terms.{Ascending};
 ghost use Rattle.record.specs.Layout.{encode, termsIn};
 ghost use Rattle.record.specs.Reading.{Holds};
@@ -65,7 +65,7 @@ fn sort_terms(out: &mut [u8], n: usize)
     requires { ⌜ Holds (now out) n × (n ≤ 2048) ⌝ }
     ensures { λ _. ⌜ Arranged n (termsIn (now (out .entry)) n) (termsIn (now (out .exit)) n) ⌝ }
 {
-    sort::sort(out, record::column_places(n), n);
+    quicksort::sort(out, record::column_places(n), n);
 }
 
 // The adjoint's record, its terms sorted where they stand.

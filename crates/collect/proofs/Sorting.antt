@@ -15,9 +15,9 @@ use Rattle.places.specs.Apart.{Apart}
 use Rattle.places.specs.Order.{key}
 use Rattle.places.specs.Places.{rowPlaces, termIn}
 use Rattle.modes.specs.Sums.{sumOf}
-use Rattle.sort.specs.Sorted.{Sorted}
+use Rattle.quicksort.specs.Sorted.{Sorted}
 use Rattle.places.proofs.Layouts.{rows-apart, term-row, terms-rows}
-use Rattle.sort.proofs.SortedTerms.{arranged, sum-kept, sorted-ascending, rows-around}
+use Rattle.quicksort.proofs.SortedTerms.{arranged, sum-kept, sorted-ascending, rows-around}
 use Rattle.record.specs.Coefficients.{coeffIn, coeffOf}
 use Rattle.normal.proofs.Normal.{normal-same}
 use Rattle.collect.specs.KeyWeights.{keyWeight, Light}

@@ -76,6 +76,6 @@ pub fn collect(work: &mut [u8], n: usize) -> usize
     ensures { λ k. ⌜ Collected n (now (work .entry)) (now (work .exit)) k ⌝ }
 {
     let places = Places::rows(0);
-    sort::sort(work, places, n);
+    quicksort::sort(work, places, n);
     join(work, n)
 }

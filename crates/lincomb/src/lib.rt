@@ -131,7 +131,7 @@ fn put_terms(sign: Sign, a: &[u8], na: usize, b: &[u8], nb: usize, out: &mut [u8
     while i + j < na + nb {
         let s = next(sign, a, na, i, b, nb, j);
         let t = s.term;
-        if record::size(t) != 0 {
+        if t.coeff != 0 {
             record::put_term(out, n, k, t);
             k += 1;
         }

@@ -1,6 +1,6 @@
 -- `lincomb::put_terms` meets its contract. The invariant: the terms so far stand in their places, and the rest is to come.
 use borrow.Author.Needs.{needs}
-use mathlib.Core.Path.{_≡_, refl, sym, _∙_}
+use mathlib.Core.Path.{_≡_, refl, _∙_}
 use mathlib.Core.List.{List}
 use Prim.Native.Nat.{_+_, _-_, _≤_}
 use native.Mathlib.Omega.{arith}
@@ -8,7 +8,7 @@ use lib.ListN.{length}
 use Rattle.modes.specs.declared.Term.{Term}
 use Rattle.lincomb.specs.Merging.{onward}
 use Rattle.lincomb.proofs.Stepping.{spent}
-use Rattle.lincomb.proofs.Writing.{Writing, writing-starts, writing-ends, leaves-out, has-place, writes}
+use Rattle.lincomb.proofs.Writing.{Writing, writing-starts, writing-ends, kept, left-out, leaves-out, has-place, writes}
 use Rattle.lincomb.proofs.put_terms.Statement.{statement}
 use Rattle.lincomb.proofs.put_terms.Tie as tie
 
@@ -31,32 +31,27 @@ add-loop-2 c = search needs
 next-requires : tie.Need-next-requires Inv-loop μ-loop
 next-requires c κs = (c .before .before .before .before .before .pre .0, search needs)
 
-size-requires : tie.Need-size-requires Inv-loop μ-loop
-size-requires c κs = search needs
-
 put-term-requires : tie.Need-put-term-requires Inv-loop μ-loop
 put-term-requires c κs =
-    let at-size = c .before .before in
-    let at-next = at-size .before .before in
+    let at-next = c .before .before .before .before .before in
     let at-loop = at-next .before .before in
     let at-start = at-loop .before .before .before .before in
     let p = at-start .pre .1 in
     let a = at-start .args in
     let rest : List Term = onward (a .sign .0) (a .a .now) (a .na) (a .b .now) (a .nb) (at-next .next .result .left) (at-next .next .result .right) in
     let v = at-loop .loop .inv in
-    (omega (arith, v .3, p .1), has-place _ _ _ (p .0) _ _ (v .2) _ rest (at-next .next .ensures .front) (λ e. c .before .if1 .taken (at-size .size .ensures .0 ∙ e)))
+    (omega (arith, v .3, p .1), has-place _ _ _ (p .0) _ _ (v .2) _ rest (at-next .next .ensures .front) (kept (at-next .next .result .term .coeff) (c .before .if1 .taken)))
 
 add-k : tie.Need-add-k Inv-loop μ-loop
 add-k c =
     let at-if1 = c .before .before .before .before in
-    let at-size = at-if1 .before in
-    let at-next = at-size .before .before in
+    let at-next = at-if1 .before .before .before .before in
     let at-loop = at-next .before .before in
     let at-start = at-loop .before .before .before .before in
     let p = at-start .pre .1 in
     let a = at-start .args in
     let rest : List Term = onward (a .sign .0) (a .a .now) (a .na) (a .b .now) (a .nb) (at-next .next .result .left) (at-next .next .result .right) in
-    omega (arith, has-place _ _ _ (p .0) _ _ (at-loop .loop .inv .2) _ rest (at-next .next .ensures .front) (λ e. at-if1 .if1 .taken (at-size .size .ensures .0 ∙ e)))
+    omega (arith, has-place _ _ _ (p .0) _ _ (at-loop .loop .inv .2) _ rest (at-next .next .ensures .front) (kept (at-next .next .result .term .coeff) (at-if1 .if1 .taken)))
 
 loop-less : tie.Need-loop-less Inv-loop μ-loop
 loop-less c = search needs
@@ -64,8 +59,7 @@ loop-less c = search needs
 loop-again : tie.Need-loop-again Inv-loop μ-loop
 loop-again c =
     let at-if1 = c .before .before .before .before in
-    let at-size = at-if1 .before in
-    let at-next = at-size .before .before in
+    let at-next = at-if1 .before .before .before .before in
     let at-loop = at-next .before .before in
     let at-start = at-loop .before .before .before .before in
     let p = at-start .pre .1 in
@@ -74,7 +68,7 @@ loop-again c =
     let s = at-next .next .ensures in (
       s .left-in,
       s .right-in,
-      writes _ _ _ (p .0) _ _ (at-loop .loop .inv .2) _ rest (s .front) (λ e. at-if1 .if1 .taken (at-size .size .ensures .0 ∙ e)) _ (c .before .before .put-term .ensures),
+      writes _ _ _ (p .0) _ _ (at-loop .loop .inv .2) _ rest (s .front) (kept (at-next .next .result .term .coeff) (at-if1 .if1 .taken)) _ (c .before .before .put-term .ensures),
       c .before .before .put-term .kept .0 ∙ at-loop .loop .inv .3,
     )
 
@@ -83,7 +77,7 @@ loop-less-2 c = search needs
 
 loop-again-2 : tie.Need-loop-again-2 Inv-loop μ-loop
 loop-again-2 c =
-    let at-next = c .before .before .before in
+    let at-next = c .before .before .before .before in
     let at-loop = at-next .before .before in
     let at-start = at-loop .before .before .before .before in
     let p = at-start .pre .1 in
@@ -91,7 +85,7 @@ loop-again-2 c =
     let rest : List Term = onward (a .sign .0) (a .a .now) (a .na) (a .b .now) (a .nb) (at-next .next .result .left) (at-next .next .result .right) in
     let v = at-loop .loop .inv in
     let s = at-next .next .ensures in
-    (s .left-in, s .right-in, leaves-out _ _ _ (p .0) _ _ (v .2) _ rest (s .front) (sym (c .before .size .ensures .0) ∙ c .if1 .left), v .3)
+    (s .left-in, s .right-in, leaves-out _ _ _ (p .0) _ _ (v .2) _ rest (s .front) (left-out (at-next .next .result .term .coeff) (record { sfits = c .before .struct-told .given .1 .1 .0 .1 }) (c .if1 .left)), v .3)
 
 same-length : tie.Need-same-length Inv-loop μ-loop
 same-length c = c .before .loop .inv .3
@@ -112,7 +106,6 @@ put-terms-spec =
     add-loop
     add-loop-2
     next-requires
-    size-requires
     put-term-requires
     add-k
     loop-less
