@@ -85,7 +85,8 @@ loop-again-2 c =
     let rest : List Term = onward (a .sign .0) (a .a .now) (a .na) (a .b .now) (a .nb) (at-next .next .result .left) (at-next .next .result .right) in
     let v = at-loop .loop .inv in
     let s = at-next .next .ensures in
-    (s .left-in, s .right-in, leaves-out _ _ _ (p .0) _ _ (v .2) _ rest (s .front) (left-out (at-next .next .result .term .coeff) (record { sfits = c .before .struct-told .given .1 .1 .0 .1 }) (c .if1 .left)), v .3)
+    let zero = left-out (at-next .next .result .term .coeff) (record { sfits = c .before .struct-told .given .1 .1 .0 .1 }) (c .if1 .left) in
+    (s .left-in, s .right-in, leaves-out _ _ _ (p .0) _ _ (v .2) _ rest (s .front) zero, v .3)
 
 same-length : tie.Need-same-length Inv-loop μ-loop
 same-length c = c .before .loop .inv .3
