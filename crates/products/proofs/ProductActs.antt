@@ -88,8 +88,7 @@ module _ (Lc La Rc Ra : ℕ) where
         sign : (false ⊕ signOf Rc Ra k) ⊕ signOf Lc La (middle k) ≡ shared k
         sign = ap (λ (x : Bool). x ⊕ signOf Lc La (middle k)) (false-⊕ (signOf Rc Ra k)) ∙ then-sign k
 
-        go : (b : Bool) → term Lc La (cond b (went (bitXor (bitXor k Ra) Rc) (false ⊕ signOf Rc Ra k)) gone)
-            ≡ cond (b && acts Lc La (middle k)) (went (last k) (shared k)) gone
+        go : (b : Bool) → term Lc La (cond b (went (middle k) (false ⊕ signOf Rc Ra k)) gone) ≡ cond (b && acts Lc La (middle k)) (went (last k) (shared k)) gone
         go true =
             term-is Lc La (bitXor (bitXor k Ra) Rc) (false ⊕ signOf Rc Ra k) hLc hLa
             ∙ ap (λ (x : Bool). cond (acts Lc La (middle k)) (went (last k) x) gone) sign

@@ -2,4 +2,5 @@ pub mod Lines
 pub mod Replies
 pub mod Unique
 pub mod Bounds
+pub mod NoRecord
 pub mod Theorems

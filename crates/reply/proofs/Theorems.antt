@@ -3,7 +3,7 @@ use mathlib.Core.Path.{_≡_, refl, sym, ap, _∙_}
 use mathlib.Core.Bool.{Bool, true, false, cond}
 use mathlib.Core.List.{List, _++_}
 use mathlib.Core.Logic.{⊎-elim}
-use Prim.Native.Nat.{ℕ, _+_, _*_, _≤_, _<_}
+use Prim.Native.Nat.{ℕ, _+_, _≤_, _<_}
 use native.Mathlib.Omega.{arith}
 use lib.Dec.{eqb}
 use lib.ListN.{length, getD, take, drop, length-append, length-take, length-drop}
@@ -11,15 +11,14 @@ use lib.Seq.{take-all, take-at, take-append-le, drop-append-le}
 use borrow.Author.Tests.{eqb-true, eqb-false, le-leb, leb-false}
 use Rattle.record.specs.Operands.{readAs}
 use Rattle.modes.specs.declared.Refusal.{Refusal}
-use Rattle.modes.specs.Answers.{refusal, none}
+use Rattle.modes.specs.Answers.{refusal}
 use Rattle.modes.proofs.Digits.{lt-or-ge}
-use Rattle.lent.specs.Bytes.{num, numAt}
+use Rattle.lent.specs.Bytes.{numAt}
 use Rattle.lent.specs.Outputs.{Output, Gives, refusedOutput}
 use Rattle.record.specs.Numbers.{numbers}
-use Rattle.record.specs.Layout.{laidOut, modesOf, countOf, termsOf, recordLength, totalOf}
-use Rattle.modes.specs.Refusals.{orElse}
+use Rattle.record.specs.Layout.{modesOf, countOf, termsOf, recordLength, totalOf}
 use Rattle.record.specs.Refusals.{refusalOf}
-use Rattle.record.proofs.Header.{Laid, laid}
+use Rattle.record.proofs.Header.{Laid}
 use Rattle.modes.proofs.Refusals.{or-first, or-second}
 use Rattle.record.proofs.Outputs.{refused-earlier}
 use Rattle.normal.specs.Normal.{normal}
@@ -28,32 +27,11 @@ use Rattle.pairs.specs.Products.{allRows}
 use Rattle.multiply.specs.Answers.{earlyRefusal, commutatorOf}
 use Rattle.multiply.proofs.Theorems.{product-accepted, product-modes, commutator-elements}
 use Rattle.reply.specs.Lines.{refusedLine, lineIn}
-use Rattle.reply.specs.Replies.{firstOf, secondOf, holdsFirst, answerTo, textOf, replyTo}
+use Rattle.reply.specs.Replies.{firstOf, secondOf, holdsFirst, answerTo, textOf, replyTo, workSize, roomSize, Says}
 use Rattle.reply.specs.Reported.{Commutator, Reported, line, result}
 use Rattle.reply.proofs.Replies.{total-decides}
+use Rattle.reply.proofs.NoRecord.{not-laid, too-long}
 use Rattle.reply.proofs.Bounds.{lawful-line, lawful-answer}
-use Rattle.reply.specs.Replies.{firstOf, secondOf, holdsFirst, answerTo, textOf, replyTo, workSize, roomSize, Says}
-
--- ---- the number 1
-
-not-laid : (o : ℕ) (l : List ℕ) → (Laid l → ⊥) → refusalOf o l ≡ refusal 1 o 0
-unfolding refusalOf
-not-laid o l h = go (laidOut l) _ refl
-  where
-    go : (s : Bool) (later : Refusal) → laidOut l ≡ s → orElse (cond s none (refusal 1 o 0)) later ≡ refusal 1 o 0
-    go true later e = absurd (h (laid l e))
-    go false later e = or-first (refusal 1 o 0) later (λ z. absurd (omega arith))
-
--- no record has more than 49,184 bytes
-too-long : (o : ℕ) (l : List ℕ) → 49184 < length l → refusalOf o l ≡ refusal 1 o 0
-too-long o l h = not-laid o l (λ k. absurd (omega (arith, k .size, k .few)))
-
--- A LINE IS NO RECORD: its first byte is not a record's
-pub line-no-record : (o : ℕ) (f : Refusal) → refusalOf o (refusedLine f) ≡ refusal 1 o 0
-unfolding refusedLine numbers numAt num
-line-no-record o f =
-    not-laid o (refusedLine f)
-    (λ k. let e : _≡_ {A = ℕ} (114 + 256 * (101 + 256 * (102 + 256 * (117 + 256 * 0)))) 1 = ap (λ (xs : List ℕ). getD xs 0 0) (k .header) in absurd (omega arith))
 
 -- ---- which record is refused first
 
@@ -70,8 +48,7 @@ module _ (work room : ℕ) where
     short-first : holdsFirst input ≡ false → refusalOf 1 (firstOf input) ≡ refusal 1 1 0
     unfolding numbers
     short-first h =
-        not-laid 1 (firstOf input) (λ k. ⊎-elim (λ less. absurd (omega (arith, k .size, length-take (totalOf input) input))) (λ there. beyond k there)
-        (lt-or-ge (length input) 32))
+        not-laid 1 (firstOf input) (λ k. ⊎-elim (λ less. absurd (omega (arith, k .size, length-take (totalOf input) input))) (beyond k) (lt-or-ge (length input) 32))
       where
         beyond : Laid (firstOf input) → 32 ≤ length input → ⊥
         beyond k there =
