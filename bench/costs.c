@@ -1,13 +1,31 @@
 /* What each call of include/fermion.h costs on operators of two-body terms and on the worst input known for it, each the
- * best of several runs. Made and started by bench/costs.sh. */
+ * best of several runs. Started by bench/costs.sh and bench/against.sh.
+ *
+ *   costs LIBRARY            the time of each call
+ *   costs OLD.. -- NEW..     the mean of the old libraries' times, of the new ones', and new / old; all of them are loaded
+ *                            into this one process and take turns */
 #define _POSIX_C_SOURCE 200809L
 #include "fermion.h"
+#include <dlfcn.h>
 #include <stdio.h>
 #include <stdlib.h>
 #include <string.h>
 #include <time.h>
 
-enum { TERMS = 2048, RECORD = 32 + 24 * TERMS, WORK = 1 << 24 };
+enum { TERMS = 2048, RECORD = 32 + 24 * TERMS, WORK = 1 << 24, MOST_LIBRARIES = 16 };
+
+#define CALLS(X)                                                                                                            \
+    X(apply) X(mul_cmpnts) X(check) X(add) X(sub) X(branches) X(mul) X(commutator) X(anticommutator) X(adjoint)             \
+    X(is_hermitian) X(max_n_body) X(block) X(element) X(mat_ortho_projected) X(compare) X(mat_elem_real)
+
+struct library {
+#define POINTER(name) __typeof__(fermion_##name) *name;
+    CALLS(POINTER)
+};
+
+static struct library libraries[MOST_LIBRARIES];
+static int n_libraries, n_old;                /* n_old: the first of them, 0 where nothing is compared */
+static const struct library *lib = libraries; /* the one that is called */
 
 struct term {
     uint64_t cre, ann;
@@ -20,6 +38,23 @@ static uint64_t words[2][TERMS], answer[8];
 static double floats[TERMS], value[2];
 static int64_t matrix[64];
 static uint64_t seed = 20261115;
+
+static void load(const char *path)
+{
+    void *handle = dlopen(path, RTLD_NOW | RTLD_LOCAL);
+    if (handle == NULL || n_libraries == MOST_LIBRARIES) {
+        fprintf(stderr, "%s\n", handle == NULL ? dlerror() : "too many libraries");
+        exit(1);
+    }
+    struct library *l = &libraries[n_libraries++];
+#define FIND(name)                                                                                                          \
+    *(void **)&l->name = dlsym(handle, "fermion_" #name);                                                                   \
+    if (l->name == NULL) {                                                                                                  \
+        fprintf(stderr, "%s has no fermion_%s\n", path, #name);                                                             \
+        exit(1);                                                                                                            \
+    }
+    CALLS(FIND)
+}
 
 static uint64_t next(void) /* splitmix64 */
 {
@@ -61,7 +96,7 @@ static size_t record_of(uint8_t *to, unsigned m, struct term *terms, size_t n)
         put(to + 32 + 8 * (n + i), terms[i].cre, 8);
         put(to + 32 + 8 * (2 * n + i), (uint64_t)terms[i].coeff, 8);
     }
-    fermion_check(to, 32 + 24 * n, answer);
+    lib->check(to, 32 + 24 * n, answer);
     if (answer[0] != 0) {
         fprintf(stderr, "a record of this program is refused with %d\n", (int)answer[0]);
         exit(1);
@@ -120,22 +155,17 @@ static double now(void)
 
 typedef void run_of(void);
 
-/* nanoseconds of one call, the best of seven runs of at least a millisecond */
-static double cost(run_of *run)
+/* nanoseconds of one call, over at least a millisecond */
+static double once(run_of *run)
 {
-    double best = 1e18;
-    for (int turn = 0; turn < 7; turn++) {
-        long calls = 0;
-        double began = now(), passed;
-        do {
-            run();
-            calls++;
-            passed = now() - began;
-        } while (passed < 1e6);
-        if (passed / (double)calls < best)
-            best = passed / (double)calls;
-    }
-    return best;
+    long calls = 0;
+    double began = now(), passed;
+    do {
+        run();
+        calls++;
+        passed = now() - began;
+    } while (passed < 1e6);
+    return passed / (double)calls;
 }
 
 static uint64_t bra, ket, basis[8];
@@ -144,36 +174,74 @@ static size_t work_len;
 static void run_apply(void)
 {
     for (int i = 0; i < 1000; i++)
-        fermion_apply(words[0][i], words[1][i], ket, answer);
+        lib->apply(words[0][i], words[1][i], ket, answer);
+    answer[0] = 0; /* that a term gives Zero is no refusal */
 }
-static void run_mul_cmpnts(void) { fermion_mul_cmpnts(bra, ket, ket, bra, work, work_len, answer); }
-static void run_check(void) { fermion_check(one, one_len, answer); }
-static void run_add(void) { fermion_add(one, one_len, two, two_len, out, RECORD, answer); }
-static void run_mul(void) { fermion_mul(one, one_len, two, two_len, work, work_len, out, RECORD, answer); }
-static void run_commutator(void) { fermion_commutator(one, one_len, two, two_len, work, work_len, out, RECORD, answer); }
-static void run_branches(void) { fermion_branches(one, one_len, two, two_len, answer); }
-static void run_adjoint(void) { fermion_adjoint(one, one_len, out, RECORD, answer); }
-static void run_is_hermitian(void) { fermion_is_hermitian(one, one_len, answer); }
-static void run_max_n_body(void) { fermion_max_n_body(one, one_len, answer); }
-static void run_block(void) { fermion_block(one, one_len, ket, answer); }
-static void run_element(void) { fermion_element(one, one_len, bra, ket, answer); }
-static void run_matrix(void) { fermion_mat_ortho_projected(one, one_len, basis, 8, matrix, answer); }
-static void run_compare(void) { fermion_compare(one, one_len, two, two_len, answer); }
+static void run_mul_cmpnts(void) { lib->mul_cmpnts(bra, ket, ket, bra, work, work_len, answer); }
+static void run_check(void) { lib->check(one, one_len, answer); }
+static void run_add(void) { lib->add(one, one_len, two, two_len, out, RECORD, answer); }
+static void run_sub(void) { lib->sub(one, one_len, two, two_len, out, RECORD, answer); }
+static void run_mul(void) { lib->mul(one, one_len, two, two_len, work, work_len, out, RECORD, answer); }
+static void run_commutator(void) { lib->commutator(one, one_len, two, two_len, work, work_len, out, RECORD, answer); }
+static void run_anticommutator(void)
+{
+    lib->anticommutator(one, one_len, two, two_len, work, work_len, out, RECORD, answer);
+}
+static void run_branches(void) { lib->branches(one, one_len, two, two_len, answer); }
+static void run_adjoint(void) { lib->adjoint(one, one_len, out, RECORD, answer); }
+static void run_is_hermitian(void) { lib->is_hermitian(one, one_len, answer); }
+static void run_max_n_body(void) { lib->max_n_body(one, one_len, answer); }
+static void run_block(void) { lib->block(one, one_len, ket, answer); }
+static void run_element(void) { lib->element(one, one_len, bra, ket, answer); }
+static void run_matrix(void) { lib->mat_ortho_projected(one, one_len, basis, 8, matrix, answer); }
+static void run_compare(void) { lib->compare(one, one_len, two, two_len, answer); }
 static void run_mat_elem(void)
 {
-    fermion_mat_elem_real(64, words[0], TERMS, words[1], TERMS, floats, TERMS, bra, ket, value, answer);
+    lib->mat_elem_real(64, words[0], TERMS, words[1], TERMS, floats, TERMS, bra, ket, value, answer);
 }
 
-static void line(const char *call, const char *on, double ns)
+static void show(double ns)
 {
-    printf("| `%s` | %s | ", call, on);
     if (ns < 1e3)
-        printf("%.0f ns", ns);
+        printf(" %.1f ns |", ns);
     else if (ns < 1e6)
-        printf("%.1f us", ns / 1e3);
+        printf(" %.1f us |", ns / 1e3);
     else
-        printf("%.1f ms", ns / 1e6);
-    printf(answer[0] ? ", refused with %d |\n" : " |\n", (int)answer[0]);
+        printf(" %.1f ms |", ns / 1e6);
+}
+
+/* the mean of these libraries' times */
+static double mean(const double *times, int from, int to)
+{
+    double sum = 0;
+    for (int i = from; i < to; i++)
+        sum += times[i];
+    return sum / (to - from);
+}
+
+/* the best of the turns of each library; `calls` of the call make one run. Every other turn goes backwards, so that no
+ * library always comes after the same one. */
+static void line(const char *call, const char *on, run_of *run, int calls)
+{
+    double best[MOST_LIBRARIES];
+    for (int turn = 0; turn < (n_old ? 16 : 7); turn++)
+        for (int k = 0; k < n_libraries; k++) {
+            int i = turn % 2 ? n_libraries - 1 - k : k;
+            lib = &libraries[i];
+            double ns = once(run) / calls;
+            if (turn == 0 || ns < best[i])
+                best[i] = ns;
+        }
+    lib = libraries;
+    printf("| `fermion_%s` | %s%s |", call, on, answer[0] ? ", refused" : "");
+    if (n_old) {
+        double old = mean(best, 0, n_old), new = mean(best, n_old, n_libraries);
+        show(old), show(new);
+        printf(" %.2f |\n", new / old);
+    } else {
+        show(best[0]);
+        printf("\n");
+    }
 }
 
 static void columns_of(const uint8_t *record)
@@ -188,42 +256,62 @@ static void columns_of(const uint8_t *record)
 static void read_one(const char *on)
 {
     columns_of(one);
-    double thousand = cost(run_apply);
-    answer[0] = 0;
-    line("fermion_apply", on, thousand / 1000);
-    line("fermion_check", on, cost(run_check));
-    line("fermion_max_n_body", on, cost(run_max_n_body));
-    line("fermion_block", on, cost(run_block));
-    line("fermion_is_hermitian", on, cost(run_is_hermitian));
-    line("fermion_adjoint", on, cost(run_adjoint));
-    line("fermion_element", on, cost(run_element));
-    line("fermion_mat_elem_real", on, cost(run_mat_elem));
-    line("fermion_mat_ortho_projected", on, cost(run_matrix));
+    line("apply", on, run_apply, 1000);
+    line("check", on, run_check, 1);
+    line("max_n_body", on, run_max_n_body, 1);
+    line("block", on, run_block, 1);
+    line("is_hermitian", on, run_is_hermitian, 1);
+    line("adjoint", on, run_adjoint, 1);
+    line("element", on, run_element, 1);
+    line("mat_elem_real", on, run_mat_elem, 1);
+    line("mat_ortho_projected", on, run_matrix, 1);
 }
 
-static void read_two(const char *on)
+static void merge_two(const char *on)
 {
-    line("fermion_compare", on, cost(run_compare));
-    line("fermion_add", on, cost(run_add));
-    line("fermion_branches", on, cost(run_branches));
-    line("fermion_mul", on, cost(run_mul));
-    line("fermion_commutator", on, cost(run_commutator));
+    line("compare", on, run_compare, 1);
+    line("add", on, run_add, 1);
+    line("sub", on, run_sub, 1);
 }
 
-int main(void)
+static void multiply_two(const char *on)
 {
-    printf("| Call | On | Time |\n|---|---|---|\n");
+    line("branches", on, run_branches, 1);
+    line("mul", on, run_mul, 1);
+    line("commutator", on, run_commutator, 1);
+    line("anticommutator", on, run_anticommutator, 1);
+}
+
+static void load_all(int argc, char **argv)
+{
+    for (int i = 1; i < argc; i++)
+        if (strcmp(argv[i], "--") == 0)
+            n_old = n_libraries;
+        else
+            load(argv[i]);
+    if (n_libraries == n_old || (n_old == 0 && n_libraries != 1)) {
+        fprintf(stderr, "usage: costs LIBRARY, or costs OLD.. -- NEW..\n");
+        exit(2);
+    }
+    printf(n_old ? "| Call | On | Old | New | New / old |\n|---|---|---|---|---|\n" : "| Call | On | Time |\n|---|---|---|\n");
+}
+
+int main(int argc, char **argv)
+{
+    load_all(argc, argv);
     work_len = 65520;
     ket = 0x5555555555555555, bra = ket;
     for (int i = 0; i < 8; i++)
         basis[i] = UINT64_C(0x5555555555555555) ^ UINT64_C(3) << 2 * i;
-    one_len = two_body(one, 64, TERMS), two_len = two_body(two, 64, TERMS);
+    one_len = two_body(one, 64, TERMS);
     read_one("2,048 two-body terms, 64 modes");
     memcpy(two, one, two_len = one_len);
-    line("fermion_compare", "2,048 two-body terms each, alike", cost(run_compare));
-    line("fermion_add", "2,048 two-body terms each, alike", cost(run_add));
+    merge_two("2,048 two-body terms each, alike");
+    one_len = two_body(one, 64, 1024), two_len = two_body(two, 64, 1024);
+    merge_two("1,024 two-body terms each, different ones");
     one_len = two_body(one, 64, 30), two_len = two_body(two, 64, 30);
-    read_two("30 two-body terms each, 64 modes, a work of 65,520 bytes");
+    merge_two("30 two-body terms each, 64 modes");
+    multiply_two("30 two-body terms each, 64 modes, a work of 65,520 bytes");
 
     ket = UINT64_MAX, bra = ket;
     for (int i = 0; i < 8; i++)
@@ -231,26 +319,27 @@ int main(void)
     one_len = nearly_all(one, 1, 1);
     memcpy(two, one, two_len = one_len);
     read_one("worst: 2,048 terms {w\\|w} of 62 or 63 modes");
-    read_two("worst: these twice, a work of 65,520 bytes");
+    merge_two("worst: these twice");
+    multiply_two("worst: these twice, a work of 65,520 bytes");
     work_len = WORK;
     one_len = nearly_all(one, 1, 0), two_len = nearly_all(two, 1, 0);
-    read_two("2,048 terms {w\\|} each, all products empty, a work of 2^24 bytes");
+    multiply_two("2,048 terms {w\\|} each, all products empty, a work of 2^24 bytes");
     struct term diagonal[835];
     for (unsigned i = 0; i < 835; i++)
         diagonal[i] = (struct term){i, i, 1};
     one_len = record_of(one, 10, diagonal, 835);
     memcpy(two, one, two_len = one_len);
-    line("fermion_mul", "697,225 rows in a work of 2^24 bytes, many alike", cost(run_mul));
+    line("mul", "697,225 rows in a work of 2^24 bytes, many alike", run_mul, 1);
     one_len = annihilating(one, 0, TERMS), two_len = annihilating(two, 32, 341);
-    line("fermion_mul", "698,368 rows, all different, a work of 2^24 bytes", cost(run_mul));
+    line("mul", "698,368 rows, all different, a work of 2^24 bytes", run_mul, 1);
     one_len = record_of(one, 19, (struct term[]){{0, (1 << 19) - 1, 1}}, 1);
     two_len = record_of(two, 19, (struct term[]){{(1 << 19) - 1, 0, 1}}, 1);
-    line("fermion_mul", "524,288 rows, all different, a work of 2^24 bytes", cost(run_mul));
+    line("mul", "524,288 rows, all different, a work of 2^24 bytes", run_mul, 1);
     bra = 0, ket = (1 << 19) - 1;
-    line("fermion_mul_cmpnts", "524,288 rows", cost(run_mul_cmpnts));
+    line("mul_cmpnts", "524,288 rows", run_mul_cmpnts, 1);
     bra = 3, ket = 12;
-    line("fermion_mul_cmpnts", "two two-body terms, 4 rows, an output of 2^24 bytes", cost(run_mul_cmpnts));
+    line("mul_cmpnts", "two two-body terms, 4 rows, an output of 2^24 bytes", run_mul_cmpnts, 1);
     work_len = 96;
-    line("fermion_mul_cmpnts", "two two-body terms, 4 rows, an output of 96 bytes", cost(run_mul_cmpnts));
+    line("mul_cmpnts", "two two-body terms, 4 rows, an output of 96 bytes", run_mul_cmpnts, 1);
     return 0;
 }

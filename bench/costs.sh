@@ -6,6 +6,6 @@ built=$(tools/shared_object.sh)
 library=${built##*$'\n'} # the last line: the library, and which code it is
 made=$(mktemp -d)
 trap 'rm -rf "$made"' EXIT
-gcc -O2 -std=c99 -Wall -Wextra -Iinclude -o "$made/costs" bench/costs.c "${library%%: *}" -Wl,-rpath,"$(dirname "${library%%: *}")"
+gcc -O2 -std=c99 -Wall -Wextra -Iinclude -o "$made/costs" bench/costs.c -ldl
 echo "${library#*: }"
-"$made/costs"
+"$made/costs" "${library%%: *}"

@@ -2,7 +2,8 @@
 # tools/shared_object.sh [OUT.so]: the proved library `fermion` as a shared object for the machine at hand, to be installed,
 # called from Python or timed. OUT is target/native/libfermion.so unless given.
 # On x86-64 it is the code of the archive that `rt staticlib fermion` writes. Elsewhere the toolchain's archive cannot be
-# linked, so the same module is compiled a second time for this machine's processor. The last line says which it was.
+# linked, so the same module is compiled a second time for this machine's processor, as target/staticlib/fermion.o. The last
+# line says which it was.
 # What is being done is told on standard error; standard output has that last line alone.
 # Where nothing under crates/ has changed since OUT was made, it is not made again: the file OUT.from says what it was made
 # from, what came out, and which code it is. A new OUT is built beside the old one and takes its place only when it is
@@ -111,8 +112,8 @@ if [ "$(uname -m)" = x86_64 ]; then
 else
     kind="$(uname -m), the same module compiled for this processor"
     say "compiling the same module for $(uname -m)"
-    compile_here "$work/own.o"
-    link "$work/own.o"
+    compile_here target/staticlib/fermion.o
+    link target/staticlib/fermion.o
 fi
 printf '%s\n' "$from" "$(results "$new")" "$kind" >"$new.from"
 mv -f "$new" "$out"
