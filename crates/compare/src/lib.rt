@@ -54,7 +54,7 @@ fn is_ahead(t: Term, u: Term) -> bool
 fn with_term(f: Found, t: Term) -> Found
     ensures { λ r. ⌜ r ≡ withTerm f t ⌝ }
 {
-    if record::size(t) == 0 {
+    if t.coeff == 0 {
         return f;
     }
     if f.some {

@@ -32,6 +32,14 @@ flip k = simp (le-ltb (suc k) 1 (omega arith), add-sub-one)
 pub tested : (z : ℤ) (t : Bool) → SFits w64 z → ltZ (toZ w64 (ofZ w64 z)) (pos 0) ≡ t → ltZ z (pos 0) ≡ t
 tested z t f e = rw (toZ-ofZ f) at e
 
+-- a number is zero exactly if its bits are
+pub zero-bits : (z : ℤ) → SFits w64 z → ofZ w64 z ≡ 0 → natAbs z ≡ 0
+zero-bits z f e = ap natAbs (sym (toZ-ofZ f) ∙ ap (toZ w64) e)
+
+pub nonzero-bits : (z : ℤ) → (ofZ w64 z ≡ 0 → ⊥) → natAbs z ≡ 0 → ⊥
+nonzero-bits (pos n) h e = h (ap (λ (k : ℕ). ofZ w64 (pos k)) e)
+nonzero-bits (negsuc n) h e = absurd (omega (arith, e))
+
 -- z below 0: -1 - z is how far z is below -1
 pub flip-fits : (z : ℤ) → SFits w64 z → ltZ z (pos 0) ≡ true → SFits w64 (negsuc 0 -ℤ z)
 flip-fits (pos n) f e = absurd (omega (arith, ltb-true n 0 e))

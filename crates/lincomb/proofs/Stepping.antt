@@ -85,54 +85,75 @@ module _ (minus : Bool) (a : List ℕ) (na i : ℕ) (b : List ℕ) (nb j : ℕ) 
         on = omega arith;
       }
 
-  -- t is the next term of the first record, and u of the second, with its sign
+  -- t is the next term of the first record, and u of the second
   pub record Heads (t u : Term) : Type 0 where
     pub left-there : i < na
     pub right-there : j < nb
     pub left : At (termsIn a na) i t
-    pub right : rest j ≡ u ∷ rest (j + 1)
+    pub right : At (termsIn b nb) j u
 
   module _ {t u : Term} (p : Heads t u) where
-    -- what is taken of each, by the order of the two terms
-    of-left : (x : Bool) → before u t ≡ x → i + cond x 0 1 ≡ i + taken (drop i (termsIn a na)) (rest j)
-    of-left x e = ap (λ (k : ℕ). i + k) (sym (ap₂ taken (p .left) (p .right) ∙ ap (λ (y : Bool). cond y 0 1) e))
+    abbrev u' : Term
+    u' = turn minus u
 
-    of-right : (x : Bool) → before t u ≡ x → j + cond x 0 1 ≡ j + taken (rest j) (drop i (termsIn a na))
-    of-right x e = ap (λ (k : ℕ). j + k) (sym (ap₂ taken (p .right) (p .left) ∙ ap (λ (y : Bool). cond y 0 1) e))
+    second : rest j ≡ u' ∷ rest (j + 1)
+    second = next-right minus b nb j u' u (p .right) refl
+
+    -- a sign changes no order
+    before-turned : before t u' ≡ before t u
+    unfolding before
+    before-turned = refl
+
+    turned-before : before u' t ≡ before u t
+    unfolding before
+    turned-before = refl
+
+    -- what is taken of each, by the order of the two terms
+    of-left : (x : Bool) → before u' t ≡ x → i + cond x 0 1 ≡ i + taken (drop i (termsIn a na)) (rest j)
+    of-left x e = ap (λ (k : ℕ). i + k) (sym (ap₂ taken (p .left) second ∙ ap (λ (y : Bool). cond y 0 1) e))
+
+    of-right : (x : Bool) → before t u' ≡ x → j + cond x 0 1 ≡ j + taken (rest j) (drop i (termsIn a na))
+    of-right x e = ap (λ (k : ℕ). j + k) (sym (ap₂ taken second (p .left) ∙ ap (λ (y : Bool). cond y 0 1) e))
 
     pub step-less : before t u ≡ true → Pulled minus a na i b nb j (record { term = t; left = i + 1; right = j })
-    step-less e =
+    step-less less =
+        let e : before t u' ≡ true = before-turned ∙ less in
         record {
-          front = ap₂ merge (p .left) (p .right) ∙ merge-less t u _ _ e ∙ ap (λ (us : List Term). t ∷ merge (drop (i + 1) (termsIn a na)) us) (sym (p .right));
-          left = of-left false (other-way t u e);
+          front = ap₂ merge (p .left) second ∙ merge-less t u' _ _ e ∙ ap (λ (us : List Term). t ∷ merge (drop (i + 1) (termsIn a na)) us) (sym second);
+          left = of-left false (other-way t u' e);
           right = sym (add-zero j) ∙ of-right true e;
           left-in = omega (arith, p .left-there);
           right-in = omega (arith, p .right-there);
           on = omega arith;
         }
 
-    pub step-greater : before t u ≡ false → before u t ≡ true → Pulled minus a na i b nb j (record { term = u; left = i; right = j + 1 })
-    step-greater e f =
-        record {
-          front = ap₂ merge (p .left) (p .right) ∙ merge-greater t u _ _ e f ∙ ap (λ (ts : List Term). u ∷ merge ts (rest (j + 1))) (sym (p .left));
-          left = sym (add-zero i) ∙ of-left true f;
-          right = of-right false e;
-          left-in = omega (arith, p .left-there);
-          right-in = omega (arith, p .right-there);
-          on = omega arith;
-        }
+    module _ (not-less : before t u ≡ false) where
+      e : before t u' ≡ false
+      e = before-turned ∙ not-less
 
-    pub step-level : (w : Term) → w ≡ join t u → before t u ≡ false → before u t ≡ false
-        → Pulled minus a na i b nb j (record { term = w; left = i + 1; right = j + 1 })
-    step-level w is e f =
-        record {
-          front = ap₂ merge (p .left) (p .right) ∙ merge-level t u _ _ e f ∙ ap (λ (x : Term). x ∷ onward minus a na b nb (i + 1) (j + 1)) (sym is);
-          left = of-left false f;
-          right = of-right false e;
-          left-in = omega (arith, p .left-there);
-          right-in = omega (arith, p .right-there);
-          on = omega arith;
-        }
+      pub step-greater : (w : Term) → w ≡ u' → before u t ≡ true → Pulled minus a na i b nb j (record { term = w; left = i; right = j + 1 })
+      step-greater w is greater =
+          let f : before u' t ≡ true = turned-before ∙ greater in
+          record {
+            front = ap₂ merge (p .left) second ∙ merge-greater t u' _ _ e f ∙ ap₂ (λ (x : Term) (ts : List Term). x ∷ merge ts (rest (j + 1))) (sym is) (sym (p .left));
+            left = sym (add-zero i) ∙ of-left true f;
+            right = of-right false e;
+            left-in = omega (arith, p .left-there);
+            right-in = omega (arith, p .right-there);
+            on = omega arith;
+          }
+
+      pub step-level : (w : Term) → w ≡ join t u' → before u t ≡ false → Pulled minus a na i b nb j (record { term = w; left = i + 1; right = j + 1 })
+      step-level w is not-greater =
+          let f : before u' t ≡ false = turned-before ∙ not-greater in
+          record {
+            front = ap₂ merge (p .left) second ∙ merge-level t u' _ _ e f ∙ ap (λ (x : Term). x ∷ onward minus a na b nb (i + 1) (j + 1)) (sym is);
+            left = of-left false f;
+            right = of-right false e;
+            left-in = omega (arith, p .left-there);
+            right-in = omega (arith, p .right-there);
+            on = omega arith;
+          }
 
 -- a coefficient read from a sound record is small, with either sign
 pub small-read : (l : List ℕ) (n i : ℕ) (t : Term) → Sound l n → At (termsIn l n) i t → natAbs (t .coeff) ≤ 2 ^ 60

@@ -3,25 +3,14 @@ use mathlib.Core.Path.{_≡_, refl, sym, ap, _∙_}
 use mathlib.Core.List.{List, [], _∷_, _++_, append-assoc, append-nil}
 use Prim.Native.Nat.{ℕ, _+_, _≤_, _<_, zero-le}
 use native.Mathlib.Omega.{arith}
-use lib.IntN.{ℤ, pos, negsuc, natAbs}
+use lib.IntN.{natAbs}
 use lib.ListN.{length, take, set, length-append, length-take}
-use mir.Syntax.{w64}
-use mir.Val.{SFits, toZ, ofZ}
-use mir.Facts.{toZ-ofZ}
 use Rattle.record.proofs.Columns.{terms-all, terms-more}
 use Rattle.record.specs.Layout.{termsIn}
 use Rattle.normal.specs.Normal.{dropZeros}
 use Rattle.modes.specs.declared.Term.{Term}
 use Rattle.record.proofs.Reading.{length-terms}
 use Rattle.normal.proofs.Sizes.{drop-none, drop-keeps, drop-leaves}
-
--- the code's test is on the bits of a coefficient
-pub kept : (z : ℤ) → (ofZ w64 z ≡ 0 → ⊥) → natAbs z ≡ 0 → ⊥
-kept (pos n) h e = h (ap (λ (k : ℕ). ofZ w64 (pos k)) e)
-kept (negsuc n) h e = absurd (omega (arith, e))
-
-pub left-out : (z : ℤ) → SFits w64 z → ofZ w64 z ≡ 0 → natAbs z ≡ 0
-left-out z f e = ap natAbs (sym (toZ-ofZ f) ∙ ap (toZ w64) e)
 
 -- a walk over the terms of whole, with left to come: the first k of the n terms in out are those before
 pub record Writing (n : ℕ) (whole left : List Term) (k : ℕ) (out : List ℕ) : Type 0 where

@@ -65,15 +65,17 @@ pub fn next(sign: Sign, a: &[u8], na: usize, i: usize, b: &[u8], nb: usize, j: u
         };
     }
     let t = record::read_term(a, na, i);
-    let u = turned(sign, record::read_term(b, nb, j));
-    if record::is_before(t, u) {
+    let v = record::read_term(b, nb, j);
+    // The order is that of the words, whatever the sign.
+    if record::is_before(t, v) {
         return Step {
             term: t,
             left: i + 1,
             right: j,
         };
     }
-    if record::is_before(u, t) {
+    let u = turned(sign, v);
+    if record::is_before(v, t) {
         return Step {
             term: u,
             left: i,
@@ -109,7 +111,7 @@ fn count_terms(sign: Sign, a: &[u8], na: usize, b: &[u8], nb: usize) -> Tally
         let t = s.term;
         let k = record::size(t);
         n += kept(k);
-        w = record::heavier(w, k);
+        w += k;
         i = s.left;
         j = s.right;
     }

@@ -1,4 +1,5 @@
 -- `collect::collect` meets its contract: the sort keeps what the rows make, and puts like ones side by side.
+use native.Mathlib.Omega.{arith}
 use lib.ListN.{length}
 use Rattle.collect.proofs.Sorting.{front-apart, sorted-fit, collected}
 use borrow.Author.Needs.{needs}
@@ -11,7 +12,7 @@ rows-requires c κs = search needs
 sort-requires : tie.Need-sort-requires
 sort-requires c κs =
     let s = c .before .before .before in
-    front-apart (c .before .rows .result) (s .args .n) (length (s .args .work .now)) (c .before .rows .ensures) (s .pre .0)
+    front-apart (c .before .rows .result) _ (length (s .args .work .now)) (c .before .rows .ensures) (omega (arith, s .pre .0))
 
 join-requires : tie.Need-join-requires
 join-requires c κs =

@@ -6,7 +6,7 @@ use native.Mathlib.Omega.{arith}
 use Rattle.modes.specs.declared.Term.{Term}
 use Rattle.lincomb.specs.Merging.{onward}
 use Rattle.lincomb.proofs.Stepping.{spent}
-use Rattle.lincomb.proofs.Tallying.{Tallying, tally-starts, tally-goes, tally-ends}
+use Rattle.lincomb.proofs.Tallying.{light-together, Tallying, tally-starts, tally-goes, tally-light, tally-ends}
 use Rattle.lincomb.proofs.count_terms.Statement.{statement}
 use Rattle.lincomb.proofs.count_terms.Tie as tie
 
@@ -37,25 +37,32 @@ kept-requires c κs = search needs
 add-n : tie.Need-add-n Inv-loop μ-loop
 add-n c = omega (arith, c .kept .ensures .1, c .before .before .before .before .before .loop .inv)
 
-heavier-requires : tie.Need-heavier-requires Inv-loop μ-loop
-heavier-requires c κs = search needs
+-- the terms that are still to come after a step
+abbrev rest : tie.After-next Inv-loop μ-loop → List Term
+rest k =
+    let a = k .before .before .before .before .before .args in
+    onward (a .sign .0) (a .a .now) (a .na) (a .b .now) (a .nb) (k .next .result .left) (k .next .result .right)
+
+add-w : tie.Need-add-w Inv-loop μ-loop
+add-w c =
+    let at-next = c .before .before .before in
+    let at-loop = at-next .before .before in
+    let s = at-loop .before .before .before in
+    let light = light-together (s .args .sign .0) _ _ _ _ (s .pre .0) (s .pre .1) in
+    omega (arith, light, tally-light _ _ (rest at-next) _ _ (at-loop .loop .inv .3) _ (at-next .next .ensures .front), c .before .size .ensures .0)
 
 loop-less : tie.Need-loop-less Inv-loop μ-loop
 loop-less c = search needs
 
 loop-again : tie.Need-loop-again Inv-loop μ-loop
 loop-again c =
-    let at-next = c .before .before .before .before in
-    let at-loop = at-next .before .before in
-    let a = at-loop .before .before .before .args in
+    let at-next = c .before .before .before in
     let s = at-next .next .ensures in
-    let v = at-loop .loop .inv in
-    let step = at-next .next .result in
-    let rest : List Term = onward (a .sign .0) (a .a .now) (a .na) (a .b .now) (a .nb) (step .left) (step .right) in (
+    let v = at-next .before .before .loop .inv in (
       s .left-in,
       s .right-in,
-      omega (arith, c .before .kept .ensures .1, v .2, s .on),
-      tally-goes _ _ rest _ _ (v .3) _ (s .front) _ _ _ (c .before .before .size .ensures .0) (c .before .kept .ensures .0) (c .heavier .ensures),
+      omega (arith, c .kept .ensures .1, v .2, s .on),
+      tally-goes _ _ (rest at-next) _ _ (v .3) _ (s .front) _ _ (c .before .size .ensures .0) (c .kept .ensures .0),
     )
 
 returns : tie.Need-returns Inv-loop μ-loop
@@ -74,7 +81,7 @@ count-terms-spec =
     size-requires
     kept-requires
     add-n
-    heavier-requires
+    add-w
     loop-less
     loop-again
     returns)

@@ -4,11 +4,13 @@ use mathlib.Core.Path.{_≡_, refl, _∙_}
 use mathlib.Core.List.{List}
 use Prim.Native.Nat.{_+_, _-_, _≤_}
 use native.Mathlib.Omega.{arith}
+use lib.IntN.{natAbs}
 use lib.ListN.{length}
 use Rattle.modes.specs.declared.Term.{Term}
+use Rattle.integers.proofs.SignedNumbers.{zero-bits, nonzero-bits}
 use Rattle.lincomb.specs.Merging.{onward}
 use Rattle.lincomb.proofs.Stepping.{spent}
-use Rattle.lincomb.proofs.Writing.{Writing, writing-starts, writing-ends, kept, left-out, leaves-out, has-place, writes}
+use Rattle.lincomb.proofs.Writing.{Writing, writing-starts, writing-ends, leaves-out, has-place, writes}
 use Rattle.lincomb.proofs.put_terms.Statement.{statement}
 use Rattle.lincomb.proofs.put_terms.Tie as tie
 
@@ -31,45 +33,53 @@ add-loop-2 c = search needs
 next-requires : tie.Need-next-requires Inv-loop μ-loop
 next-requires c κs = (c .before .before .before .before .before .pre .0, search needs)
 
+-- the terms that are still to come after a step
+abbrev rest : tie.After-next Inv-loop μ-loop → List Term
+rest k =
+    let a = k .before .before .before .before .before .before .args in
+    onward (a .sign .0) (a .a .now) (a .na) (a .b .now) (a .nb) (k .next .result .left) (k .next .result .right)
+
+-- the step whose term is written
+abbrev step : tie.Then1 Inv-loop μ-loop → tie.After-next Inv-loop μ-loop
+step k = k .before .before .before .before
+
+-- it is not zero
+nonzero : (k : tie.Then1 Inv-loop μ-loop) → natAbs (step k .next .result .term .coeff) ≡ 0 → ⊥
+nonzero k = nonzero-bits (step k .next .result .term .coeff) (k .if1 .taken)
+
 put-term-requires : tie.Need-put-term-requires Inv-loop μ-loop
 put-term-requires c κs =
-    let at-next = c .before .before .before .before .before in
+    let at-if1 = c .before in
+    let at-next = step at-if1 in
     let at-loop = at-next .before .before in
-    let at-start = at-loop .before .before .before .before in
-    let p = at-start .pre .1 in
-    let a = at-start .args in
-    let rest : List Term = onward (a .sign .0) (a .a .now) (a .na) (a .b .now) (a .nb) (at-next .next .result .left) (at-next .next .result .right) in
+    let p = at-loop .before .before .before .before .pre .1 in
     let v = at-loop .loop .inv in
-    (omega (arith, v .3, p .1), has-place _ _ _ (p .0) _ _ (v .2) _ rest (at-next .next .ensures .front) (kept (at-next .next .result .term .coeff) (c .before .if1 .taken)))
+    (omega (arith, v .3, p .1), has-place _ _ _ (p .0) _ _ (v .2) _ (rest at-next) (at-next .next .ensures .front) (nonzero at-if1))
 
 add-k : tie.Need-add-k Inv-loop μ-loop
 add-k c =
     let at-if1 = c .before .before .before .before in
-    let at-next = at-if1 .before .before .before .before in
+    let at-next = step at-if1 in
     let at-loop = at-next .before .before in
-    let at-start = at-loop .before .before .before .before in
-    let p = at-start .pre .1 in
-    let a = at-start .args in
-    let rest : List Term = onward (a .sign .0) (a .a .now) (a .na) (a .b .now) (a .nb) (at-next .next .result .left) (at-next .next .result .right) in
-    omega (arith, has-place _ _ _ (p .0) _ _ (at-loop .loop .inv .2) _ rest (at-next .next .ensures .front) (kept (at-next .next .result .term .coeff) (at-if1 .if1 .taken)))
+    let p = at-loop .before .before .before .before .pre .1 in
+    omega (arith, has-place _ _ _ (p .0) _ _ (at-loop .loop .inv .2) _ (rest at-next) (at-next .next .ensures .front) (nonzero at-if1))
 
 loop-less : tie.Need-loop-less Inv-loop μ-loop
 loop-less c = search needs
 
 loop-again : tie.Need-loop-again Inv-loop μ-loop
 loop-again c =
-    let at-if1 = c .before .before .before .before in
-    let at-next = at-if1 .before .before .before .before in
+    let at-put = c .before .before in
+    let at-if1 = at-put .before .before in
+    let at-next = step at-if1 in
     let at-loop = at-next .before .before in
-    let at-start = at-loop .before .before .before .before in
-    let p = at-start .pre .1 in
-    let a = at-start .args in
-    let rest : List Term = onward (a .sign .0) (a .a .now) (a .na) (a .b .now) (a .nb) (at-next .next .result .left) (at-next .next .result .right) in
+    let p = at-loop .before .before .before .before .pre .1 in
+    let v = at-loop .loop .inv in
     let s = at-next .next .ensures in (
       s .left-in,
       s .right-in,
-      writes _ _ _ (p .0) _ _ (at-loop .loop .inv .2) _ rest (s .front) (kept (at-next .next .result .term .coeff) (at-if1 .if1 .taken)) _ (c .before .before .put-term .ensures),
-      c .before .before .put-term .kept .0 ∙ at-loop .loop .inv .3,
+      writes _ _ _ (p .0) _ _ (v .2) _ (rest at-next) (s .front) (nonzero at-if1) _ (at-put .put-term .ensures),
+      at-put .put-term .kept .0 ∙ v .3,
     )
 
 loop-less-2 : tie.Need-loop-less-2 Inv-loop μ-loop
@@ -79,14 +89,11 @@ loop-again-2 : tie.Need-loop-again-2 Inv-loop μ-loop
 loop-again-2 c =
     let at-next = c .before .before .before .before in
     let at-loop = at-next .before .before in
-    let at-start = at-loop .before .before .before .before in
-    let p = at-start .pre .1 in
-    let a = at-start .args in
-    let rest : List Term = onward (a .sign .0) (a .a .now) (a .na) (a .b .now) (a .nb) (at-next .next .result .left) (at-next .next .result .right) in
+    let p = at-loop .before .before .before .before .pre .1 in
     let v = at-loop .loop .inv in
     let s = at-next .next .ensures in
-    let zero = left-out (at-next .next .result .term .coeff) (record { sfits = c .before .struct-told .given .1 .1 .0 .1 }) (c .if1 .left) in
-    (s .left-in, s .right-in, leaves-out _ _ _ (p .0) _ _ (v .2) _ rest (s .front) zero, v .3)
+    let zero = zero-bits (at-next .next .result .term .coeff) (record { sfits = c .before .struct-told .given .1 .1 .0 .1 }) (c .if1 .left) in
+    (s .left-in, s .right-in, leaves-out _ _ _ (p .0) _ _ (v .2) _ (rest at-next) (s .front) zero, v .3)
 
 same-length : tie.Need-same-length Inv-loop μ-loop
 same-length c = c .before .loop .inv .3
