@@ -1,6 +1,6 @@
 #!/usr/bin/env bash
 # bench/against.sh COMMIT: what each call costs, at COMMIT and in this tree: both libraries in one process, by turns.
-# Where code lies changes its speed, so each library is linked four times, its code 0, 16, 32 and 48 bytes further on, and
+# Where code lies changes its speed, so each library is linked four times, its code 16, 32, 48 and 64 bytes further on, and
 # the means are compared. From nothing it takes ten minutes, for COMMIT is proved in a folder of its own.
 set -euo pipefail
 cd "$(dirname "$0")/.."
@@ -20,8 +20,8 @@ shifted() { # TREE NAME: the libraries of a tree, linked four times
     "$1/tools/shared_object.sh" >"$made/$2"
     code=("$1/target/staticlib/fermion.o")
     [ "$(uname -m)" = x86_64 ] && code=(-Wl,--whole-archive "$1/target/staticlib/libfermion.a" -Wl,--no-whole-archive)
-    for shift in 0 16 32 48; do
-        printf '.text\n.skip %d\n.section .note.GNU-stack,"",%%progbits\n' "$shift" >"$made/shift.s"
+    for shift in 16 32 48 64; do
+        printf '.text\n.space %d\n.section .note.GNU-stack,"",%%progbits\n' "$shift" >"$made/shift.s"
         gcc -shared -nostartfiles -o "$made/$2.$shift.so" "$made/shift.s" "${code[@]}"
     done
 }

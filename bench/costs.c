@@ -1,5 +1,5 @@
 /* What each call of include/fermion.h costs on operators of two-body terms and on the worst input known for it, each the
- * best of several runs. Started by bench/costs.sh and bench/against.sh.
+ * median of several runs. Started by bench/costs.sh and bench/against.sh.
  *
  *   costs LIBRARY            the time of each call
  *   costs OLD.. -- NEW..     the mean of the old libraries' times, of the new ones', and new / old; all of them are loaded
@@ -12,7 +12,7 @@
 #include <string.h>
 #include <time.h>
 
-enum { TERMS = 2048, RECORD = 32 + 24 * TERMS, WORK = 1 << 24, MOST_LIBRARIES = 16 };
+enum { TERMS = 2048, RECORD = 32 + 24 * TERMS, WORK = 1 << 24, MOST_LIBRARIES = 16, TURNS = 17 };
 
 #define CALLS(X)                                                                                                            \
     X(apply) X(mul_cmpnts) X(check) X(add) X(sub) X(branches) X(mul) X(commutator) X(anticommutator) X(adjoint)             \
@@ -210,36 +210,43 @@ static void show(double ns)
         printf(" %.1f ms |", ns / 1e6);
 }
 
-/* the mean of these libraries' times */
-static double mean(const double *times, int from, int to)
+/* the mean of these libraries' medians */
+static double mean(double times[][TURNS], int from, int to)
 {
     double sum = 0;
     for (int i = from; i < to; i++)
-        sum += times[i];
+        sum += times[i][TURNS / 2];
     return sum / (to - from);
 }
 
-/* the best of the turns of each library; `calls` of the call make one run. Every other turn goes backwards, so that no
- * library always comes after the same one. */
+static int by_size(const void *x, const void *y)
+{
+    double a = *(const double *)x, b = *(const double *)y;
+    return a < b ? -1 : a > b;
+}
+
+/* The time of each library, the median of its turns; `calls` of the call make one run. Every other turn goes backwards, so
+ * that no library always comes after the same one. The least of the turns would say more of the branch predictor than of
+ * the code: for a call of 3 ns it is 2.2 ns in the turns in which one library happens to be remembered whole. */
 static void line(const char *call, const char *on, run_of *run, int calls)
 {
-    double best[MOST_LIBRARIES];
-    for (int turn = 0; turn < (n_old ? 16 : 7); turn++)
+    double times[MOST_LIBRARIES][TURNS];
+    for (int turn = 0; turn < TURNS; turn++)
         for (int k = 0; k < n_libraries; k++) {
             int i = turn % 2 ? n_libraries - 1 - k : k;
             lib = &libraries[i];
-            double ns = once(run) / calls;
-            if (turn == 0 || ns < best[i])
-                best[i] = ns;
+            times[i][turn] = once(run) / calls;
         }
     lib = libraries;
+    for (int i = 0; i < n_libraries; i++)
+        qsort(times[i], TURNS, sizeof times[i][0], by_size);
     printf("| `fermion_%s` | %s%s |", call, on, answer[0] ? ", refused" : "");
     if (n_old) {
-        double old = mean(best, 0, n_old), new = mean(best, n_old, n_libraries);
+        double old = mean(times, 0, n_old), new = mean(times, n_old, n_libraries);
         show(old), show(new);
         printf(" %.2f |\n", new / old);
     } else {
-        show(best[0]);
+        show(times[0][TURNS / 2]);
         printf("\n");
     }
 }
