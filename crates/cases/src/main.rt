@@ -4,7 +4,6 @@ ghost use Prim.Native.Nat.{_<_};
 use libc::STDIN_FILENO;
 use libc::STDOUT_FILENO;
 use modes::Sign;
-use modes::Written;
 use products::ApplyResult;
 
 // How many answers were compared, how many differ, and which was the first to, counted from 1.
@@ -19,13 +18,11 @@ fn more(n: u64) -> u64 {
 }
 
 impl Tally {
-    fn new() -> Tally {
-        Tally {
-            compared: 0,
-            differ: 0,
-            first: 0,
-        }
-    }
+    const NONE: Tally = Tally {
+        compared: 0,
+        differ: 0,
+        first: 0,
+    };
 
     fn with(self, agrees: bool) -> Tally {
         let compared = more(self.compared);
@@ -49,7 +46,9 @@ impl Tally {
     }
 }
 
-fn print_tally(t: Tally) {
+// What was compared, and how it came out.
+fn print_tally(title: &[u8], t: Tally) {
+    io::write_all(STDOUT_FILENO, title);
     io::print_decimal(STDOUT_FILENO, t.compared);
     io::write_all(STDOUT_FILENO, b" compared, ");
     io::print_decimal(STDOUT_FILENO, t.differ);
@@ -94,94 +93,62 @@ fn applies(cre: u64, ann: u64, ket: u64, outcome: u64, word: u64, minus: u64) ->
     }
 }
 
-// The word at `at` of a row or an output.
-fn word(out: &[u8; 96], at: usize) -> u64 {
-    if at <= 88 { lent::word(out, at) } else { 0 }
+// Are these the words of the output: the annihilation word, the creation word and the coefficient, 1 or -1 as its bits, of each row, and zeros past them?
+fn holds(out: &[u8; 96], words: &[u64; 12]) -> bool {
+    let mut i = 0;
+    while i < 12 {
+        if lent::word(out, 8 * i) != words[i] {
+            return false;
+        }
+        i += 1;
+    }
+    true
 }
 
-// Is row k {cre|ann} with this coefficient, 1 or -1 as its bits?
-fn row_is(out: &[u8; 96], k: usize, ann: u64, cre: u64, coeff: u64) -> bool
-    requires { ⌜ k < 4 ⌝ }
-{
-    let at = 24 * k;
-    word(out, at) == ann && word(out, at + 8) == cre && word(out, at + 16) == coeff
-}
-
-// The rows of a product in 96 bytes, and what the call answered.
-struct Rows {
-    out: [u8; 96],
-    answer: Written,
-}
-
-fn product(l_cre: u64, l_ann: u64, r_cre: u64, r_ann: u64) -> Rows {
+// Is {l_cre|l_ann} {r_cre|r_ann} not refused, with n rows, and these?
+fn product_is(l_cre: u64, l_ann: u64, r_cre: u64, r_ann: u64, n: u64, words: &[u64; 12]) -> bool {
     let mut out = [255u8; 96];
     let answer = products::mul_cmpnts(l_cre, l_ann, r_cre, r_ann, &mut out);
-    Rows { out, answer }
+    answer.refusal.number == 0 && answer.branches == n && holds(&out, words)
 }
 
-impl Rows {
-    // Not refused, with n rows, and zeros past them?
-    fn has_rows(self, n: u64) -> bool {
-        let out = self.out;
-        let answer = self.answer;
-        let mut i: usize = 0;
-        while i < 96 {
-            if (i as u64) / 24 >= n && out[i] != 0 {
-                return false;
-            }
-            i += 1;
-        }
-        answer.refusal.number == 0 && answer.branches == n
-    }
-
-    // One row, {cre|ann} minus?
-    fn is_minus(self, ann: u64, cre: u64) -> bool {
-        let out = self.out;
-        self.has_rows(1) && row_is(&out, 0, ann, cre, u64::MAX)
-    }
+// Is it one row, {cre|ann} with this coefficient?
+fn product_is_one(
+    l_cre: u64,
+    l_ann: u64,
+    r_cre: u64,
+    r_ann: u64,
+    ann: u64,
+    cre: u64,
+    coeff: u64,
+) -> bool {
+    product_is(
+        l_cre,
+        l_ann,
+        r_cre,
+        r_ann,
+        1,
+        &[ann, cre, coeff, 0, 0, 0, 0, 0, 0, 0, 0, 0],
+    )
 }
 
-// Case 2: one row, {0|0}.
-fn second_case() -> bool {
-    let two = product(1, 1, 1, 1);
-    let out = two.out;
-    two.has_rows(1) && row_is(&out, 0, 1, 1, 1)
-}
-
-// Case 3: the constant before the row of rank 1.
-fn third_case() -> bool {
-    let three = product(0, 1, 1, 0);
-    let out = three.out;
-    three.has_rows(2) && row_is(&out, 0, 0, 0, 1) && row_is(&out, 1, 1, 1, u64::MAX)
-}
-
-// Case 8: four rows, low rank before high.
-fn eighth_case() -> bool {
-    let eight = product(0, 3, 3, 0);
-    let out = eight.out;
-    eight.has_rows(4)
-        && row_is(&out, 0, 0, 0, u64::MAX)
-        && row_is(&out, 1, 2, 2, 1)
-        && row_is(&out, 2, 1, 1, 1)
-        && row_is(&out, 3, 3, 3, 1)
-}
-
-// Cases 1 to 8, in their order.
+// Cases 1 to 8, in their order: in case 3 the constant comes before the row of rank 1, in case 8 low rank before high.
 fn numbered_products() -> Tally {
-    Tally::new()
-        .with(product(1, 0, 1, 0).has_rows(0))
-        .with(second_case())
-        .with(third_case())
-        .with(product(0, 1, 2, 0).is_minus(1, 2))
-        .with(product(0, 1, 2, 4).is_minus(5, 2))
-        .with(product(1, 4, 2, 0).is_minus(4, 3))
-        .with(product(2, 0, 1, 0).is_minus(0, 3))
-        .with(eighth_case())
+    let minus = u64::MAX;
+    Tally::NONE
+        .with(product_is(1, 0, 1, 0, 0, &[0; 12]))
+        .with(product_is_one(1, 1, 1, 1, 1, 1, 1))
+        .with(product_is(0, 1, 1, 0, 2, &[0, 0, 1, 1, 1, minus, 0, 0, 0, 0, 0, 0]))
+        .with(product_is_one(0, 1, 2, 0, 1, 2, minus))
+        .with(product_is_one(0, 1, 2, 4, 5, 2, minus))
+        .with(product_is_one(1, 4, 2, 0, 4, 3, minus))
+        .with(product_is_one(2, 0, 1, 0, 0, 3, minus))
+        .with(product_is(0, 3, 3, 0, 4, &[0, 0, minus, 2, 2, 1, 1, 1, 1, 3, 3, 1]))
 }
 
 // Cases 9 to 13, in their order.
 fn numbered_words() -> Tally {
-    let nine = Tally::new()
+    let nine = Tally::NONE
         .with(applies(0, 0, 0, 1, 0, 0))
         .with(applies(0, 0, 5, 1, 5, 0))
         .with(applies(0, 0, u64::MAX, 1, u64::MAX, 0));
@@ -212,71 +179,35 @@ fn stored_count(line: &[u8; 104]) -> bool {
     count as u64 == field(line, 2)
 }
 
-// A line of the stored answers, and how many bytes of it were there to read.
-struct Line {
-    bytes: [u8; 104],
-    read: usize,
-}
-
-fn next_line() -> Line {
-    let mut bytes = [0u8; 104];
-    let read = io::read_full(STDIN_FILENO, &mut bytes);
-    Line { bytes, read }
-}
-
-// The answers of each kind, and the lines of none.
-struct Stored {
-    applied: Tally,
-    counted: Tally,
-    unknown: Tally,
-}
-
-impl Stored {
-    fn with(self, line: Line) -> Stored {
-        let mut out = self;
-        let bytes = line.bytes;
-        let kind = bytes[0];
-        if line.read != 104 {
-            out.unknown = out.unknown.with(false);
-        } else if kind == b'a' {
-            out.applied = out.applied.with(stored_apply(&bytes));
-        } else if kind == b'c' {
-            out.counted = out.counted.with(stored_count(&bytes));
-        } else {
-            out.unknown = out.unknown.with(false);
-        }
-        out
-    }
-}
-
-fn read_stored() -> Stored {
-    let mut out = Stored {
-        applied: Tally::new(),
-        counted: Tally::new(),
-        unknown: Tally::new(),
-    };
+// Reads the stored answers, at most 100,000 lines, and prints how those of each kind came out, and the lines of none.
+fn print_stored() {
+    let mut applied = Tally::NONE;
+    let mut counted = Tally::NONE;
+    let mut unknown = Tally::NONE;
     let mut i: usize = 0;
     while i < 100000 {
-        let line = next_line();
-        if line.read == 0 {
-            return out;
+        let mut line = [0u8; 104];
+        let read = io::read_full(STDIN_FILENO, &mut line);
+        if read == 0 {
+            break;
         }
-        out = out.with(line);
+        let kind = if read == 104 { line[0] } else { 0 };
+        if kind == b'a' {
+            applied = applied.with(stored_apply(&line));
+        } else if kind == b'c' {
+            counted = counted.with(stored_count(&line));
+        } else {
+            unknown = unknown.with(false);
+        }
         i += 1;
     }
-    out
+    print_tally(b"apply_op_ket_u64: ", applied);
+    print_tally(b"count_before_each_set_bit: ", counted);
+    print_tally(b"lines of no known kind: ", unknown);
 }
 
 fn main() {
-    io::write_all(STDOUT_FILENO, b"numbered cases 1 to 8: ");
-    print_tally(numbered_products());
-    io::write_all(STDOUT_FILENO, b"numbered cases 9 to 13: ");
-    print_tally(numbered_words());
-    let s = read_stored();
-    io::write_all(STDOUT_FILENO, b"apply_op_ket_u64: ");
-    print_tally(s.applied);
-    io::write_all(STDOUT_FILENO, b"count_before_each_set_bit: ");
-    print_tally(s.counted);
-    io::write_all(STDOUT_FILENO, b"lines of no known kind: ");
-    print_tally(s.unknown);
+    print_tally(b"numbered cases 1 to 8: ", numbered_products());
+    print_tally(b"numbered cases 9 to 13: ", numbered_words());
+    print_stored();
 }
