@@ -21,11 +21,8 @@ ghost use Rattle.record.specs.Blocks.{blockOf};
 ghost use Rattle.figures.specs.Figures.{conservesOf, maxNBodyOf, activeModesOf};
 ghost use Rattle.fermion.specs.Face.{applyAnswer, writtenAnswer, answered, checkedAnswer, testedAnswer, measuredAnswer, stretchAnswer, elementAnswer, Fills, FillsClean};
 ghost use Rattle.fermion.specs.Face.{floatValues, floatAnswer, FillsFloat, comparedAnswer, branchesAnswer, inRows, FillsMatrix};
-use branches::BranchCounts;
-use compare::Compared;
 use figures::Measured;
 use float_elem::FloatElement;
-use mat_elem::Exact;
 use mat_elem::Projected;
 use modes::Refusal;
 use modes::Written;
@@ -56,12 +53,6 @@ fn measured(m: Measured) -> [u64; 8]
     ensures { λ a. ⌜ a ≡ measuredAnswer m ⌝ }
 {
     answer_of(m.refusal, m.value, 0, 0)
-}
-
-fn exact(e: Exact) -> [u64; 8]
-    ensures { λ a. ⌜ a ≡ elementAnswer e ⌝ }
-{
-    answer_of(e.refusal, integers::bits(e.value), 0, 0)
 }
 
 // the answer of a call that fills an output
@@ -177,18 +168,13 @@ pub extern "C" fn fermion_anticommutator(
     *answer = written(w);
 }
 
-fn counted(c: BranchCounts) -> [u64; 8]
-    ensures { λ a. ⌜ a ≡ branchesAnswer c ⌝ }
-{
-    let r = c.refusal;
-    [r.number, r.operand, r.place, 0, c.forward, c.backward, 0, 0]
-}
-
 #[no_mangle]
 pub extern "C" fn fermion_branches(a: &[u8], b: &[u8], answer: &mut [u64; 8])
     ensures { λ _. ⌜ now (answer .exit) ≡ branchesAnswer (branchesTold (readAs 1 (now (a .entry))) (readAs 2 (now (b .entry)))) ⌝ }
 {
-    *answer = counted(branches::branches(a, b));
+    let c = branches::branches(a, b);
+    let r = c.refusal;
+    *answer = [r.number, r.operand, r.place, 0, c.forward, c.backward, 0, 0];
 }
 
 #[no_mangle]
@@ -239,7 +225,8 @@ pub extern "C" fn fermion_block(a: &[u8], ann: u64, answer: &mut [u64; 8])
 pub extern "C" fn fermion_element(a: &[u8], bra: u64, ket: u64, answer: &mut [u64; 8])
     ensures { λ _. ⌜ now (answer .exit) ≡ elementAnswer (elementOf (readAs 1 (now (a .entry))) bra ket) ⌝ }
 {
-    *answer = exact(mat_elem::element(a, bra, ket));
+    let e = mat_elem::element(a, bra, ket);
+    *answer = answer_of(e.refusal, integers::bits(e.value), 0, 0);
 }
 
 // re and im, plus zero where the element has none
@@ -300,17 +287,12 @@ pub extern "C" fn fermion_mat_elem_complex(
     *answer = float_answer(e);
 }
 
-fn compared(c: Compared) -> [u64; 8]
-    ensures { λ a. ⌜ a ≡ comparedAnswer c ⌝ }
-{
-    answer_of(c.refusal, flag(c.equal), c.bra, c.ket)
-}
-
 #[no_mangle]
 pub extern "C" fn fermion_compare(a: &[u8], b: &[u8], answer: &mut [u64; 8])
     ensures { λ _. ⌜ now (answer .exit) ≡ comparedAnswer (comparedOf (readAs 1 (now (a .entry))) (readAs 2 (now (b .entry)))) ⌝ }
 {
-    *answer = compared(compare::compare(a, b));
+    let c = compare::compare(a, b);
+    *answer = answer_of(c.refusal, flag(c.equal), c.bra, c.ket);
 }
 
 // the eight rows one after the other
