@@ -19,9 +19,11 @@ same-length c = search needs
 
 returns : tie.Need-returns
 returns c =
-    let further = c .before .before .before .before .before .before .before in
-    let a = further .before .before in
-    cc (put-split 4 4 (a .args .s .now) (a .args .at) (a .args .x) (omega arith))
+    let at-second = c .before .before in
+    let at-first = at-second .before .before .before .before in
+    let start = at-first .before .before .before in
+    rw (at-second .put-half2 .ensures, at-first .put-half .ensures)
+    (put-split 4 4 (start .args .s .now) (start .args .at) (start .args .x) (omega (arith, start .pre)))
 
 pub put-word-spec : {M : Type 1} → statement M
 put-word-spec =

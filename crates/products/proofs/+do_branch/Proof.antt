@@ -104,7 +104,8 @@ do-branch-returns-2 t c =
     let first = at-do-branch .do-branch .ensures in
     let second = at-do-branch2 .do-branch2 .ensures in (
       omega (arith, first .0, second .0, twice-left (s .args .left) some (s .fits .left .fits)),
-      cc (walk-both (s .args .left) (s .args .row) some (s .fits .left .fits) (s .args .out .now) (s .args .at) (omega (arith, s .pre .1 .0)), first .0, first .1, second .1, high),
+      rw (second .1, first .1, first .0, high)
+          (walk-both (s .args .left) (s .args .row) some (s .fits .left .fits) (s .args .out .now) (s .args .at) (omega (arith, s .pre .1 .0))),
     )
 
 pub +do-branch-spec : {M : Type 1} → statement M
