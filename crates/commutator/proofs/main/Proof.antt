@@ -1,25 +1,25 @@
 -- `commutator::main` is safe and ends: what it writes stands in the output.
 use borrow.Author.Needs.{needs}
-use mathlib.Core.Path.{refl, sym}
+use mathlib.Core.Path.{sym}
 use lib.Seq.{length-take-le}
 use Rattle.reply.proofs.Replies.{says-inside}
 use Rattle.commutator.proofs.main.Statement.{statement}
 use Rattle.commutator.proofs.main.Tie as tie
 
 slice-aggregate-read-full : tie.Need-slice-aggregate-read-full
-slice-aggregate-read-full c = refl
+slice-aggregate-read-full c = search needs
 
 read-full-requires : tie.Need-read-full-requires
-read-full-requires c κs = tt
+read-full-requires c κs = search needs
 
 array-share-prefix-input : tie.Need-array-share-prefix-input
-array-share-prefix-input c = c .before .read-full .ensures .0
+array-share-prefix-input c = search needs
 
 slice-aggregate-reply : tie.Need-slice-aggregate-reply
 slice-aggregate-reply c = search needs
 
 reply-requires : tie.Need-reply-requires
-reply-requires c κs = tt
+reply-requires c κs = search needs
 
 array-share-prefix-out : tie.Need-array-share-prefix-out
 array-share-prefix-out c = says-inside (c .reply .ensures)
@@ -29,10 +29,10 @@ slice-aggregate-write-all c =
     let called = c .before .reply in sym (length-take-le (called .result) (called .last .1 .0) (says-inside (called .ensures)))
 
 write-all-requires : tie.Need-write-all-requires
-write-all-requires c κs = tt
+write-all-requires c κs = search needs
 
 returns : tie.Need-returns
-returns c = tt
+returns c = search needs
 
 pub main-spec : {M : Type 1} → statement M
 main-spec =
