@@ -13,7 +13,6 @@ ghost use Rattle.modes.specs.Words.{bit};
 ghost use Rattle.modes.specs.Counts.{count, pairs};
 ghost use Rattle.modes.specs.Every.{Every};
 ghost use Rattle.lent.specs.Outputs.{Gives, filledOutput};
-ghost use Rattle.quicksort.specs.Sorted.{Arranged};
 ghost use Rattle.record.specs.Terms.{Ascending};
 ghost use Rattle.record.specs.Layout.{encode, termsIn};
 ghost use Rattle.record.specs.Reading.{Holds};
@@ -60,21 +59,13 @@ fn put_adjoint_terms(a: &[u8], n: usize, out: &mut [u8])
     }
 }
 
-// The n terms that were put there, sorted where they stand.
-fn sort_terms(out: &mut [u8], n: usize)
-    requires { ⌜ Holds (now out) n × (n ≤ 2048) ⌝ }
-    ensures { λ _. ⌜ Arranged n (termsIn (now (out .entry)) n) (termsIn (now (out .exit)) n) ⌝ }
-{
-    quicksort::sort(out, record::column_places(n), n);
-}
-
 // The adjoint's record, its terms sorted where they stand.
 fn write_adjoint(a: &[u8], m: u64, n: usize, out: &mut [u8]) -> Written
     requires { ⌜ Holds (now a) n × Holds (now out) n × Canonical m (termsIn (now a) n) ⌝ }
     ensures { λ r. ⌜ Gives (filledOutput (length (now (out .entry))) 0 (encode m (adjointTerms (termsIn (now (a .entry)) n)))) r (now (out .exit)) ⌝ }
 {
     put_adjoint_terms(a, n, out);
-    sort_terms(out, n);
+    quicksort::sort(out, record::column_places(n), n);
     record::finish(out, m, n, 0)
 }
 

@@ -8,7 +8,7 @@ ghost use Rattle.record.specs.Operands.{readAs};
 ghost use Rattle.normal.specs.Normal.{dropZeros};
 ghost use Rattle.lincomb.specs.Merging.{onward};
 ghost use Rattle.record.specs.Reading.{Sound};
-ghost use Rattle.compare.specs.Comparison.{ahead, named, refusedComparison, comparedOf};
+ghost use Rattle.compare.specs.Comparison.{ahead, named, comparedOf};
 ghost use Rattle.compare.specs.Finding.{withTerm};
 
 // Equal; or different, with the bra and the ket at which the elements differ. False, 0 and 0 where it is refused.
@@ -17,19 +17,6 @@ pub struct Compared {
     pub equal: bool,
     pub bra: u64,
     pub ket: u64,
-}
-
-impl Compared {
-    fn refused(refusal: Refusal) -> Compared
-        ensures { λ r. ⌜ r ≡ refusedComparison refusal ⌝ }
-    {
-        Compared {
-            refusal,
-            equal: false,
-            bra: 0,
-            ket: 0,
-        }
-    }
 }
 
 // The term to be named of those gone through, if there is one.
@@ -115,7 +102,12 @@ pub fn compare(a: &[u8], b: &[u8]) -> Compared
     let p = results::open_operands(a, b);
     if p.refusal.number != 0 {
         let refusal = p.refusal;
-        return Compared::refused(refusal);
+        return Compared {
+            refusal,
+            equal: false,
+            bra: 0,
+            ket: 0,
+        };
     }
     let na = p.left;
     let nb = p.right;

@@ -12,7 +12,7 @@ ghost use lib.IntN.{natAbs};
 ghost use lib.ListN.{length};
 ghost use Rattle.record.specs.Operands.{readAs};
 ghost use Rattle.lent.specs.Outputs.{Gives, filledOutput};
-ghost use Rattle.record.specs.Layout.{encode, termsIn};
+ghost use Rattle.record.specs.Layout.{encode};
 ghost use Rattle.normal.specs.Normal.{dropZeros};
 ghost use Rattle.record.specs.Reading.{Holds, Sound};
 ghost use Rattle.lincomb.specs.Sums.{turn, combined, added, subtracted};
@@ -121,28 +121,7 @@ fn count_terms(sign: Sign, a: &[u8], na: usize, b: &[u8], nb: usize) -> Tally
     }
 }
 
-// The result's terms, of which there are n, to their places.
-fn put_terms(sign: Sign, a: &[u8], na: usize, b: &[u8], nb: usize, out: &mut [u8], n: usize)
-    requires { ⌜ Sound (now a) na × Sound (now b) nb ⌝ }
-    requires { ⌜ (n ≡ length (dropZeros (onward (sign .0) (now a) na (now b) nb 0 0))) × Holds (now out) n ⌝ }
-    ensures { λ _. ⌜ termsIn (now (out .exit)) n ≡ dropZeros (onward (sign .0) (now (a .entry)) na (now (b .entry)) nb 0 0) ⌝ }
-{
-    let mut i = 0;
-    let mut j = 0;
-    let mut k = 0;
-    while i + j < na + nb {
-        let s = next(sign, a, na, i, b, nb, j);
-        let t = s.term;
-        if t.coeff != 0 {
-            record::put_term(out, n, k, t);
-            k += 1;
-        }
-        i = s.left;
-        j = s.right;
-    }
-}
-
-// The record of these terms, with zeros past it.
+// The record of the result's terms, of which there are n, with zeros past it.
 fn write_sum(
     sign: Sign,
     a: &[u8],
@@ -157,7 +136,19 @@ fn write_sum(
     requires { ⌜ (n ≡ length (dropZeros (onward (sign .0) (now a) na (now b) nb 0 0))) × Holds (now out) n × (n ≤ 2048) ⌝ }
     ensures { λ r. ⌜ Gives (filledOutput (length (now (out .entry))) 0 (encode m (dropZeros (onward (sign .0) (now (a .entry)) na (now (b .entry)) nb 0 0)))) r (now (out .exit)) ⌝ }
 {
-    put_terms(sign, a, na, b, nb, out, n);
+    let mut i = 0;
+    let mut j = 0;
+    let mut k = 0;
+    while i + j < na + nb {
+        let s = next(sign, a, na, i, b, nb, j);
+        let t = s.term;
+        if t.coeff != 0 {
+            record::put_term(out, n, k, t);
+            k += 1;
+        }
+        i = s.left;
+        j = s.right;
+    }
     record::finish(out, m, n, 0)
 }
 

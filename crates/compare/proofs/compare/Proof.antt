@@ -8,11 +8,8 @@ use Rattle.compare.proofs.compare.Tie as tie
 open-operands-requires : tie.Need-open-operands-requires
 open-operands-requires c κs = search needs
 
-refused-requires : tie.Need-refused-requires
-refused-requires c κs = search needs
-
 returns : tie.Need-returns
-returns c = c .refused .ensures ∙ comparison-refused _ _ _ (c .before .before .before .before .open-operands .ensures) (c .before .before .if1 .taken)
+returns c = comparison-refused _ _ _ (c .before .before .before .open-operands .ensures) (c .before .if1 .taken)
 
 find-requires : tie.Need-find-requires
 find-requires c κs = both-sound _ _ _ (c .before .before .open-operands .ensures) (c .if1 .left)
@@ -22,4 +19,4 @@ returns-2 c = c .find .ensures ∙ comparison-found _ _ _ (c .before .before .be
 
 pub compare-spec : {M : Type 1} → statement M
 compare-spec =
-    tie.close (tie.spec open-operands-requires refused-requires returns find-requires returns-2)
+    tie.close (tie.spec open-operands-requires returns find-requires returns-2)
