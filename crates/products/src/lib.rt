@@ -59,22 +59,6 @@ pub fn apply_op_ket_u64(cre: u64, ann: u64, ket: u64) -> ApplyResult
     ApplyResult::Applied(ket_after_ann | cre, Sign::from_exchanges(exponent))
 }
 
-// The set bits of `word` below the one bit of `mode`.
-fn set_bits_before(word: u64, mode: u64) -> u64
-    requires { ⌜ One mode ⌝ }
-    ensures { λ r. ⌜ odd 64 (bit r) ≡ oddExchanges 64 (bit word) (bit mode) ⌝ }
-{
-    word & (mode - 1)
-}
-
-// The set bits of `word` above the one bit of `mode`.
-fn set_bits_after(word: u64, mode: u64) -> u64
-    requires { ⌜ One mode ⌝ }
-    ensures { λ r. ⌜ odd 64 (bit r) ≡ oddExchanges 64 (bit mode) (bit word) ⌝ }
-{
-    word & !(mode - 1 + mode)
-}
-
 // Bit p is set where an odd number of bits of `word` stand below p. Each step doubles how far down a bit looks.
 fn odd_before(word: u64) -> u64
     ensures { λ r. ⌜ ((p : ℕ) → p < 64 → bit r p ≡ odd p (bit word)) ⌝ }
@@ -115,12 +99,12 @@ pub fn signed_coeff(sign: Sign, coeff: i64) -> i64
     }
 }
 
-// The row that keeps the branching mode `mode` too.
+// The row that keeps the branching mode `mode` too: its two ladders pass the creations above it and the annihilations below it.
 fn keep(row: Term, mode: u64) -> Term
     requires { ⌜ One mode × (natAbs (row .coeff) < 2 ^ 63) ⌝ }
     ensures { λ r. ⌜ (r ≡ keeping mode row) × (natAbs (r .coeff) < 2 ^ 63) ⌝ }
 {
-    let passed = set_bits_after(row.cre, mode) ^ set_bits_before(row.ann, mode);
+    let passed = (row.cre & !(mode - 1 + mode)) ^ (row.ann & (mode - 1));
     let coeff = signed_coeff(Sign::MINUS.mul(sign_of_bits(passed)), row.coeff);
     Term {
         cre: row.cre | mode,
