@@ -6,6 +6,7 @@ use modes::Written;
 ghost use mathlib.Core.Path.{_≡_};
 ghost use lib.ListN.{length};
 ghost use Rattle.record.specs.Operands.{readAs};
+ghost use Rattle.lent.specs.Bytes.{zeros};
 ghost use Rattle.lent.specs.Outputs.{Gives};
 ghost use Rattle.multiply.specs.Answers.{weightRefusal, productAnswer, productOf, commutatorOf, anticommutatorOf, Leaves};
 
@@ -21,7 +22,7 @@ fn weight_refusal(v: u64, w: u64) -> Refusal
     Refusal::NONE
 }
 
-// The rows of two records that are open, joined and delivered. The work is left as it is, for `multiply` wipes it.
+// The rows of two records that are open, joined and delivered. The work is left as it is, for `finish` wipes it.
 fn produce(both: bool, sign: Sign, a: &[u8], b: &[u8], work: &mut [u8], out: &mut [u8]) -> Written
     ensures { λ r. ⌜ Gives (productAnswer both (sign .0) (length (now (work .entry))) (length (now (out .entry))) (readAs 1 (now (a .entry))) (readAs 2 (now (b .entry)))) r (now (out .exit)) ⌝ }
 {
@@ -42,13 +43,20 @@ fn produce(both: bool, sign: Sign, a: &[u8], b: &[u8], work: &mut [u8], out: &mu
     results::deliver(work, n, (s.held / 24) as u64, p.modes, out)
 }
 
-// One of the three answers, and the one way out of every call: the work is wiped.
+// The one way out of every call: its answer, once the work is wiped.
+fn finish(w: Written, work: &mut [u8]) -> Written
+    ensures { λ r. ⌜ (r ≡ w) × (now (work .exit) ≡ zeros (length (now (work .entry)))) ⌝ }
+{
+    lent::wipe(work);
+    w
+}
+
+// One of the three answers, and a work all zero.
 fn multiply(both: bool, sign: Sign, a: &[u8], b: &[u8], work: &mut [u8], out: &mut [u8]) -> Written
     ensures { λ r. ⌜ Leaves (productAnswer both (sign .0) (length (now (work .entry))) (length (now (out .entry))) (readAs 1 (now (a .entry))) (readAs 2 (now (b .entry)))) r (now (out .exit)) (length (now (work .entry))) (now (work .exit)) ⌝ }
 {
     let w = produce(both, sign, a, b, work, out);
-    lent::wipe(work);
-    w
+    finish(w, work)
 }
 
 // The record of the product a b.

@@ -8,8 +8,8 @@ use Rattle.multiply.proofs.multiply.Tie as tie
 produce-requires : tie.Need-produce-requires
 produce-requires c κs = search needs
 
-wipe-requires : tie.Need-wipe-requires
-wipe-requires c κs = search needs
+finish-requires : tie.Need-finish-requires
+finish-requires c κs = search needs
 
 same-length : tie.Need-same-length
 same-length c = search needs
@@ -19,9 +19,11 @@ same-length-2 c = search needs
 
 returns : tie.Need-returns
 returns c =
-    let at-wipe = c .before .before in
-    let made = at-wipe .before .before .before .before .before .before .produce in
-    record { output = made .ensures; clean = at-wipe .wipe .ensures ∙ ap zeros (made .kept .1 .1 .1 .1 .0) }
+    let at-finish = c .before .before in
+    let at-produce = at-finish .before .before .before .before .before .before in
+    let made = at-produce .produce in
+    let done = at-finish .finish .ensures in
+    record { output = record { answer = rw (made .ensures .answer) at (done .0); bytes = made .ensures .bytes }; clean = done .1 ∙ ap zeros (made .kept .1 .1 .1 .1 .0) }
 
 pub multiply-spec : {M : Type 1} → statement M
-multiply-spec = tie.close (tie.spec produce-requires wipe-requires same-length same-length-2 returns)
+multiply-spec = tie.close (tie.spec produce-requires finish-requires same-length same-length-2 returns)
