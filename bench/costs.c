@@ -118,13 +118,13 @@ static size_t two_body(uint8_t *to, unsigned m, size_t n)
     return record_of(to, m, terms, n);
 }
 
-/* {w|w}, or {|w} or {w|}, w being all modes but at most two */
-static size_t nearly_all(uint8_t *to, int creates, int annihilates)
+/* terms {w|w}, or {|w} or {w|}, w being all modes but at most two */
+static size_t nearly_all(uint8_t *to, size_t most, int creates, int annihilates)
 {
     static struct term terms[TERMS];
     size_t n = 0;
-    for (unsigned p = 0; p < 64 && n < TERMS; p++)
-        for (unsigned q = p; q < 64 && n < TERMS; q++) {
+    for (unsigned p = 0; p < 64 && n < most; p++)
+        for (unsigned q = p; q < 64 && n < most; q++) {
             uint64_t w = ~(UINT64_C(1) << p | UINT64_C(1) << q);
             terms[n++] = (struct term){creates ? w : 0, annihilates ? w : 0, 1};
         }
@@ -323,13 +323,13 @@ int main(int argc, char **argv)
     ket = UINT64_MAX, bra = ket;
     for (int i = 0; i < 8; i++)
         basis[i] = UINT64_MAX ^ (i ? UINT64_C(1) << 8 * i : 0);
-    one_len = nearly_all(one, 1, 1);
+    one_len = nearly_all(one, TERMS, 1, 1);
     memcpy(two, one, two_len = one_len);
     read_one("worst: 2,048 terms {w\\|w} of 62 or 63 modes");
     merge_two("worst: these twice");
     multiply_two("worst: these twice, a work of 65,520 bytes");
     work_len = WORK;
-    one_len = nearly_all(one, 1, 0), two_len = nearly_all(two, 1, 0);
+    one_len = nearly_all(one, TERMS, 1, 0), two_len = nearly_all(two, TERMS, 1, 0);
     multiply_two("2,048 terms {w\\|} each, all products empty, a work of 2^24 bytes");
     struct term diagonal[835];
     for (unsigned i = 0; i < 835; i++)
@@ -337,6 +337,8 @@ int main(int argc, char **argv)
     one_len = record_of(one, 10, diagonal, 835);
     memcpy(two, one, two_len = one_len);
     line("mul", "697,225 rows in a work of 2^24 bytes, many alike", run_mul, 1);
+    one_len = nearly_all(one, 835, 1, 1), two_len = nearly_all(two, 835, 1, 1);
+    line("mul", "697,225 rows in a work of 2^24 bytes, most of them the last of all", run_mul, 1);
     one_len = annihilating(one, 0, TERMS), two_len = annihilating(two, 32, 341);
     line("mul", "698,368 rows, all different, a work of 2^24 bytes", run_mul, 1);
     one_len = record_of(one, 19, (struct term[]){{0, (1 << 19) - 1, 1}}, 1);
