@@ -304,6 +304,16 @@ def check_large(calls):
             judge(calls, "two-body operators of 16 and 24 terms", name, a, b)
 
 
+def check_keys(calls):
+    """Rows of which most are {w|w} for one w, all 64 modes or not: the sort parts equal ones off by the next key, and the last
+    key has none."""
+    for whole in (FULL, FULL >> 1, FULL - 1):
+        terms = sorted((whole & ~(1 << p),) * 2 + (1 + p % 3,) for p in range(1, 25))
+        both = records.encode(64, terms)
+        for name in CALLS:
+            judge(calls, "rows of which most have one key", name, both, both, 24 << 11, ROOM)
+
+
 def two_body(rng, m, n):
     words = lambda: sum(1 << p for p in rng.sample(range(m), 2))
     return sorted((*term, rng.choice((-3, -1, 1, 2))) for term in {(words(), words()) for _ in range(n)})
@@ -335,6 +345,6 @@ def check_stored(calls):
 
 run(SEED, (
     check_case_14, check_drawn, check_lengths, check_damaged, check_weights, check_result_weights, check_huge,
-    check_empty, check_sizes, check_branches, check_common, check_cancelling, check_large, check_one_workspace,
-    check_stored,
+    check_empty, check_sizes, check_branches, check_common, check_cancelling, check_large, check_keys,
+    check_one_workspace, check_stored,
 ))
