@@ -12,15 +12,17 @@
 #include <string.h>
 #include <time.h>
 
-enum { TERMS = 2048, RECORD = 32 + 24 * TERMS, WORK = 1 << 24, MOST_LIBRARIES = 16, TURNS = 17 };
+enum { TERMS = 2048, RECORD = 32 + 24 * TERMS, WORK = 1 << 24, MOST_LIBRARIES = 16, TURNS = 17, BATCH = 16 };
 
 #define CALLS(X)                                                                                                            \
     X(apply) X(mul_cmpnts) X(check) X(add) X(sub) X(branches) X(mul) X(commutator) X(anticommutator) X(adjoint)             \
     X(is_hermitian) X(max_n_body) X(block) X(element) X(mat_ortho_projected) X(compare) X(mat_elem_real)
+#define LATER(X) X(report_add) /* what an older library lacks: NULL there, and its lines are left out */
 
 struct library {
 #define POINTER(name) __typeof__(fermion_##name) *name;
     CALLS(POINTER)
+    LATER(POINTER)
 };
 
 static struct library libraries[MOST_LIBRARIES];
@@ -34,7 +36,10 @@ struct term {
 
 static uint8_t one[RECORD], two[RECORD], out[RECORD], work[WORK];
 static size_t one_len, two_len;
-static uint64_t words[2][TERMS], answer[8];
+static uint64_t words[2][TERMS], answer[8], report[FERMION_REPORT];
+static uint8_t batch[BATCH][RECORD]; /* records that are looked at in turn, so that no branch is learnt by heart */
+static size_t batch_len[BATCH];
+static unsigned batch_at;
 static double floats[TERMS], value[2];
 static int64_t matrix[64];
 static uint64_t seed = 20261115;
@@ -47,13 +52,15 @@ static void load(const char *path)
         exit(1);
     }
     struct library *l = &libraries[n_libraries++];
+#define FIND_LATER(name) *(void **)&l->name = dlsym(handle, "fermion_" #name);
 #define FIND(name)                                                                                                          \
-    *(void **)&l->name = dlsym(handle, "fermion_" #name);                                                                   \
+    FIND_LATER(name)                                                                                                        \
     if (l->name == NULL) {                                                                                                  \
         fprintf(stderr, "%s has no fermion_%s\n", path, #name);                                                             \
         exit(1);                                                                                                            \
     }
     CALLS(FIND)
+    LATER(FIND_LATER)
 }
 
 static uint64_t next(void) /* splitmix64 */
@@ -146,6 +153,15 @@ static size_t annihilating(uint8_t *to, unsigned from, size_t n)
     return record_of(to, 64, terms, n);
 }
 
+/* terms of random words on all modes, so of many ranks; that two of them are alike is not to be feared */
+static size_t any_words(uint8_t *to, size_t n)
+{
+    static struct term terms[TERMS];
+    for (size_t i = 0; i < n; i++)
+        terms[i] = (struct term){next(), next(), (int64_t)(next() % 9) + 1};
+    return record_of(to, 64, terms, n);
+}
+
 static double now(void)
 {
     struct timespec t;
@@ -191,6 +207,18 @@ static void run_branches(void) { lib->branches(one, one_len, two, two_len, answe
 static void run_adjoint(void) { lib->adjoint(one, one_len, out, RECORD, answer); }
 static void run_is_hermitian(void) { lib->is_hermitian(one, one_len, answer); }
 static void run_max_n_body(void) { lib->max_n_body(one, one_len, answer); }
+static void run_batch_check(void)
+{
+    batch_at = (batch_at + 1) % BATCH;
+    lib->check(batch[batch_at], batch_len[batch_at], answer);
+}
+static void run_batch_report(void)
+{
+    if (report[0] == FERMION_MAX_REPORTED) /* it counts no more: one call in so many begins with a fresh one */
+        memset(report, 0, sizeof report);
+    batch_at = (batch_at + 1) % BATCH;
+    lib->report_add(batch[batch_at], batch_len[batch_at], report, answer);
+}
 static void run_block(void) { lib->block(one, one_len, ket, answer); }
 static void run_element(void) { lib->element(one, one_len, bra, ket, answer); }
 static void run_matrix(void) { lib->mat_ortho_projected(one, one_len, basis, 8, matrix, answer); }
@@ -258,6 +286,42 @@ static void columns_of(const uint8_t *record)
         memcpy(&words[0][i], record + 32 + 8 * (TERMS + i), 8);
         floats[i] = 1.0 / (double)(i + 1);
     }
+}
+
+/* The checks of a batch, and the report that counts it, where every library has it. */
+static void count_batch(const char *on)
+{
+    int all = 1;
+    for (int i = 0; i < n_libraries; i++)
+        all = all && libraries[i].report_add != NULL;
+    line("check", on, run_batch_check, 1);
+    memset(report, 0, sizeof report);
+    if (all)
+        line("report_add", on, run_batch_report, 1);
+}
+
+static void count_two_body(unsigned modes, size_t n, const char *on)
+{
+    for (int i = 0; i < BATCH; i++)
+        batch_len[i] = two_body(batch[i], modes, n);
+    count_batch(on);
+}
+
+static void count_batches(void)
+{
+    count_two_body(16, TERMS, "16 records in turn, 2,048 two-body terms, 16 modes");
+    count_two_body(32, TERMS, "16 records in turn, 2,048 two-body terms, 32 modes");
+    count_two_body(64, TERMS, "16 records in turn, 2,048 two-body terms, 64 modes");
+    count_two_body(64, 1024, "16 records in turn, 1,024 two-body terms, 64 modes");
+    count_two_body(64, 256, "16 records in turn, 256 two-body terms, 64 modes");
+    count_two_body(64, 64, "16 records in turn, 64 two-body terms, 64 modes");
+    count_two_body(64, 0, "16 records in turn, no terms");
+    for (int i = 0; i < BATCH; i++)
+        batch_len[i] = any_words(batch[i], TERMS);
+    count_batch("16 records in turn, 2,048 terms of random words, 64 modes");
+    for (int i = 0; i < BATCH; i++)
+        batch_len[i] = nearly_all(batch[i], TERMS, 1, 1);
+    count_batch("16 records in turn, 2,048 terms {w\\|w} of 62 or 63 modes");
 }
 
 static void read_one(const char *on)
@@ -350,5 +414,7 @@ int main(int argc, char **argv)
     line("mul_cmpnts", "two two-body terms, 4 rows, an output of 2^24 bytes", run_mul_cmpnts, 1);
     work_len = 96;
     line("mul_cmpnts", "two two-body terms, 4 rows, an output of 96 bytes", run_mul_cmpnts, 1);
+
+    count_batches();
     return 0;
 }

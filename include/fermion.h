@@ -14,7 +14,7 @@
  *     answer[4]  branches (product family) or rows (mul_cmpnts), 0 elsewhere and on refusal
  *     answer[5], answer[6], answer[7]  the call's own values, named below; 0 where unused and on refusal
  *   A signed value stands there as its two's complement. On a refusal everything else that is lent for writing is
- *   zero.
+ *   zero; only a report, which a call reads and changes, is then left as it was.
  *
  * - Refusals are named below in the order in which they are looked for; the first that applies is given. "The record"
  *   means MALFORMED for the whole; then for each term in turn WORD_OUTSIDE, OUT_OF_ORDER, ZERO_COEFF; then TOO_HEAVY.
@@ -27,12 +27,12 @@
  *   points to uint64_t, int64_t or double is aligned for it. The records of one call may be the same memory (A times
  *   A); nothing that is lent for writing overlaps anything else. A slice of length 0 may be a null pointer: nothing
  *   is read or written through it, since the compiled code assumes nothing of a slice's pointer and reaches only
- *   elements below the length; the tests pass null for every slice, on both kinds of machine. `answer`, `matrix` and
- *   `value` are never null.
+ *   elements below the length; the tests pass null for every slice, on both kinds of machine. `answer`, `matrix`,
+ *   `value` and `report` are never null.
  *
  * - It allocates no memory, keeps nothing between calls and has no data of its own to write to: calls from many
- *   threads at once are safe, each on its own `answer`, `out`, `work`, `matrix` and `value`; what is only read may be
- *   shared. It takes no lock and makes no system call. The library needs memcpy and memset, and nothing else.
+ *   threads at once are safe, each on its own `answer`, `out`, `work`, `matrix`, `value` and `report`; what is only
+ *   read may be shared. It takes no lock and makes no system call. The library needs memcpy and memset, and nothing else.
  *
  * - It needs at most FERMION_MAX_STACK bytes of stack, whatever the input. The most that was measured is 7,168, for a
  *   product in which 18 modes branch; with all the work that a process can address it would be less than 14,000. The
@@ -51,6 +51,8 @@
 #define FERMION_ROW 24                                   /* bytes of a row: one term of a product */
 #define FERMION_MAX_WEIGHT UINT64_C(1152921504606846976) /* 2^60: sum of a record's coefficients' magnitudes */
 #define FERMION_MAX_BASIS 8                              /* words of a matrix' basis */
+#define FERMION_REPORT 201                               /* numbers of a report */
+#define FERMION_MAX_REPORTED 1024                        /* records that a report counts, refused ones among them */
 #define FERMION_MAX_STACK 16384                          /* bytes of stack that a call needs */
 
 /* answer[0]. docs/RECORD.md has each in full. */
@@ -69,7 +71,8 @@ enum fermion_refusal {
     FERMION_OUTPUT_TOO_SHORT = 11,   /* the output is shorter than the record of the result */
     FERMION_OCCUPATION_OUTSIDE = 12, /* a bra, a ket or a basis word is outside the modes */
     FERMION_NOT_FINITE = 13,         /* a float coefficient or a running sum is not finite */
-    FERMION_BAD_BASIS = 14           /* the basis has more than 8 words, or a word twice */
+    FERMION_BAD_BASIS = 14,          /* the basis has more than 8 words, or a word twice */
+    FERMION_BAD_REPORT = 15          /* the report counts 1,024 records, or one of its numbers is above its limit */
 };
 
 #ifdef __cplusplus
@@ -120,6 +123,17 @@ void fermion_is_hermitian(const uint8_t *a, size_t a_len, uint64_t answer[8]);
 void fermion_conserves_particle_number(const uint8_t *a, size_t a_len, uint64_t answer[8]);
 void fermion_max_n_body(const uint8_t *a, size_t a_len, uint64_t answer[8]);
 void fermion_active_modes(const uint8_t *a, size_t a_len, uint64_t answer[8]);
+
+/* One record counted into a report, which is handed on from call to call. A fresh report is all zero, and it counts up
+ * to FERMION_MAX_REPORTED records; their order does not matter. Its numbers:
+ *     report[0] accepted records, [1] refused records, [2] terms, [3] high and [4] low of the total weight, [5] the
+ *     largest weight, [6 + 3 r] terms of rank r, [7 + 3 r] high and [8 + 3 r] low of their weight, r from 0 to 64
+ * A summed weight is high times 2^60 plus low, low below 2^60. A refused record is no refusal of the call: it adds one
+ * to report[1] and nothing else. [5] 1 where the record is accepted, 0 where it is refused; [6] the number and [7] the
+ * place of the record's own refusal, both 0 where it is accepted. Refusals: BAD_REPORT where report[0] + report[1] is
+ * 1,024 or more, or where of the total or of a rank the terms are above 2^21, the high is above 1,024 or the low is not
+ * below 2^60; the report is then left as it was, and the record is not looked at. */
+void fermion_report_add(const uint8_t *a, size_t a_len, uint64_t report[201], uint64_t answer[8]);
 
 /* The stretch of the creation column for one annihilation word: [5] its offset in the record's bytes, [6] its
  * length in bytes; both 0 for the empty part: no such word, a word outside the modes, or a record that isn't

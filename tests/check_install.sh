@@ -126,6 +126,9 @@ SAME(modes, FERMION_MAX_MODES, 64);
 SAME(row, FERMION_ROW, 24);
 SAME(weight, FERMION_MAX_WEIGHT, 1152921504606846976);
 SAME(basis, FERMION_MAX_BASIS, 8);
+SAME(report, FERMION_REPORT, 6 + 3 * (FERMION_MAX_MODES + 1));
+SAME(numbers, FERMION_REPORT, 201);
+SAME(reported, FERMION_MAX_REPORTED, 1024);
 C
     cp header.c header.cpp
     gcc -std=c99 -Wall -Wextra -Wpedantic -Werror "-I$there/include" -c header.c -o header.o &&
@@ -135,13 +138,13 @@ C
 refusals_by_number() { # in the order of docs/RECORD.md's table
     local names name number=0
     names="OK MALFORMED WORD_OUTSIDE OUT_OF_ORDER ZERO_COEFF TOO_HEAVY MODES_DIFFER ROWS_DO_NOT_FIT PRODUCT_TOO_HEAVY
-        RESULT_TOO_HEAVY TOO_MANY_TERMS OUTPUT_TOO_SHORT OCCUPATION_OUTSIDE NOT_FINITE BAD_BASIS"
+        RESULT_TOO_HEAVY TOO_MANY_TERMS OUTPUT_TOO_SHORT OCCUPATION_OUTSIDE NOT_FINITE BAD_BASIS BAD_REPORT"
     echo '#include <fermion.h>' >numbers.c
     for name in $names; do
         echo "typedef char is_${name}[FERMION_$name == $((number++)) ? 1 : -1];" >>numbers.c
     done
     gcc -std=c99 "-I$there/include" -c numbers.c -o numbers.o || return
-    same "$(grep -cE '^    FERMION_[A-Z_]+ = [0-9]+' "$there/include/fermion.h")" 15
+    same "$(grep -cE '^    FERMION_[A-Z_]+ = [0-9]+' "$there/include/fermion.h")" 16
 }
 
 documented_line() { # as the example and docs/INSTALL.md have it

@@ -74,6 +74,7 @@ FACE = {
     "conserves_particle_number": Row(records.conserves_particle_number, FIGURE, "check_records.py"),
     "max_n_body": Row(records.max_n_body, FIGURE, "check_records.py"),
     "active_modes": Row(records.active_modes, FIGURE, "check_records.py"),
+    "report_add": Row(records.report_add, (READ, array_changed(201)), "check_report.py"),
     "block": Row(records.block, (READ, NUMBER), "check_records.py"),
     "element": Row(records.element, (READ, NUMBER, NUMBER), "check_elements.py"),
     "mat_ortho_projected": Row(records.mat_ortho_projected, (READ, READ_WORDS, array_written(64)), "check_elements.py"),

@@ -18,6 +18,7 @@ import rule
 
 MAX_MODES, MAX_TERMS, MAX_WEIGHT, MAX_BASIS = 64, 2048, 2**60, 8
 HEADER, ROW = 32, 24
+REPORT, MAX_REPORTED, MAX_COUNT, MAX_HIGH, UNIT = 201, 1024, 2**21, 1024, 2**60
 
 
 class Answer(collections.namedtuple("Answer", "numbers lent")):
@@ -279,8 +280,13 @@ def conserves_particle_number(a):
     return of_one(a, lambda m, rows: all(rule.size(ann) == rule.size(cre) for ann, cre, _ in rows))
 
 
+def rank(ann, cre):
+    """Creations and annihilations, halved, rounded down."""
+    return (rule.size(ann) + rule.size(cre)) // 2
+
+
 def max_n_body(a):
-    return of_one(a, lambda m, rows: max(((rule.size(ann) + rule.size(cre)) // 2 for ann, cre, _ in rows), default=0))
+    return of_one(a, lambda m, rows: max((rank(ann, cre) for ann, cre, _ in rows), default=0))
 
 
 def active_modes(a):
@@ -301,6 +307,49 @@ def block(a, ann):
     if not places:
         return given()
     return given(HEADER + 8 * len(rows) + 8 * places[0], 8 * len(places))
+
+
+# The report: accepted, refused, the share of all terms, the largest weight, then a share for each rank. A share is three
+# numbers, terms, high and low: its weight is high times UNIT plus low.
+
+SHARES = [2, *range(6, REPORT, 3)]  # where they begin: that of all terms, then rank 0 to rank 64
+
+
+def is_bad_share(terms, high, low):
+    return terms > MAX_COUNT or high > MAX_HIGH or low >= UNIT
+
+
+def is_bad_report(report):
+    """Full, or with a share above its limits; nothing else of it is judged."""
+    full = report[0] + report[1] >= MAX_REPORTED
+    return full or any(is_bad_share(*report[at:at + 3]) for at in SHARES)
+
+
+def share_with(share, rows):
+    """A share with some rows counted in."""
+    terms, high, low = share
+    return terms + len(rows), *divmod(high * UNIT + low + weight(rows), UNIT)
+
+
+def report_with(report, rows):
+    """A report with the rows of an accepted record counted in."""
+    by_rank = collections.defaultdict(list)
+    for row in rows:
+        by_rank[rank(*row[:2])].append(row)
+    accepted, refusals, *_, largest = report[:6]
+    shares = [share_with(report[at:at + 3], by_rank[r]) for r, at in enumerate(SHARES[1:])]
+    return [accepted + 1, refusals, *share_with(report[2:5], rows), max(largest, weight(rows)), *itertools.chain(*shares)]
+
+
+def report_add(a, report):
+    """The lent bytes are the report. A record that is refused is no refusal of the call."""
+    if is_bad_report(report):
+        return refused((15, 0, 0), words(report))
+    fault = refusal(a, 1)
+    if fault:
+        number, _, place = fault
+        return given(0, number, place, lent=(words([report[0], report[1] + 1, *report[2:]]),))
+    return given(1, lent=(words(report_with(report, decode(a)[1])),))
 
 
 # Elements
@@ -466,6 +515,20 @@ def check_refusals():
     assert mat_elem_real(2, [0], [3], [bits_of(0.0)], 0, 3) == Answer([0] * 8, (bytes(16),))
 
 
+def check_report():
+    """Case 14's record counted, then one that is refused; a full report and one with a low of 2^60."""
+    one = [1, 0, 2, 0, 2, 2, 0, 0, 0, 2, 0, 2, *[0] * 189]  # both terms have rank 1
+    assert report_add(EXAMPLE, [0] * REPORT) == Answer([0, 0, 0, 0, 0, 1, 0, 0], (words(one),))
+    two = words([1, 1, *one[2:]])
+    assert report_add(EXAMPLE[:-1], one) == Answer([0, 0, 0, 0, 0, 0, 1, 0], (two,))
+    assert report_add(encode(2, [(1, 1, 1), (2, 2, 0)]), one) == Answer([0, 0, 0, 0, 0, 0, 4, 1], (two,))
+    for wrong in ([1000, 24, *one[2:]], [2**64 - 1, 1, *one[2:]], [*one[:-1], 2**60]):
+        for a in (EXAMPLE, b""):
+            assert report_add(a, wrong) == Answer([15, 0, 0, 0, 0, 0, 0, 0], (words(wrong),))
+    near = [1023, 0, 2**21, 1024, 2**60 - 1, 2**64 - 1, *[0] * 195]
+    assert numbers_in(report_add(EXAMPLE, near).lent[0])[:6] == [1024, 0, 2**21 + 2, 1025, 1, 2**64 - 1]
+
+
 def some_records(m, n):
     """Records on m modes with up to 3 rows, n of them, spread over all that there are."""
     words = [(ann, cre) for ann in range(1 << m) for cre in range(1 << m)]
@@ -521,5 +584,7 @@ if __name__ == "__main__":
     print("the whole example, cases 14 and 15: as written there")
     check_refusals()
     print("refusals: in the order of the specification")
+    check_report()
+    print("the report: as worked out by hand")
     for m, n in ((1, 300), (2, 600), (3, 200)):
         print(f"records on {m} modes: elements of the answers are those of the operands, {check_elements(m, n)} pairs")

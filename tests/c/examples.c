@@ -328,6 +328,77 @@ static struct tally check_branches(void)
     return t;
 }
 
+/* a report between guards */
+struct counted {
+    uint64_t before, numbers[FERMION_REPORT], after;
+};
+
+/* a report in which all terms have rank 1 */
+static struct counted report_of(uint64_t yes, uint64_t no, uint64_t terms, uint64_t high, uint64_t low, uint64_t largest)
+{
+    return (struct counted){7, {yes, no, terms, high, low, largest, [9] = terms, high, low}, 9};
+}
+
+static void check_count(struct tally *t, const uint8_t *a, size_t len, struct counted got, struct counted right,
+                        struct guarded told)
+{
+    struct guarded answer = dirty();
+    fermion_report_add(a, len, got.numbers, answer.answer);
+    compare(t, &got, &right, sizeof got);
+    same_answer(t, answer, told);
+}
+
+static void check_bad_report(struct tally *t, struct counted report)
+{
+    struct guarded told = answer_of(15, 0, 0, 0, 0, 0, 0);
+    check_count(t, example, 80, report, report, told);
+    check_count(t, example, 79, report, report, told);
+    check_count(t, NULL, 0, report, report, told);
+}
+
+/* full, by sums above 2^64 too; and each number but the largest weight one above its limit */
+static void check_bad_reports(struct tally *t)
+{
+    const uint64_t above[] = {(1 << 21) + 1, 1025, UINT64_C(1) << 60}, half = UINT64_C(1) << 63;
+    check_bad_report(t, report_of(1000, 24, 2, 0, 2, 2));
+    check_bad_report(t, report_of(0, 1024, 0, 0, 0, 0));
+    check_bad_report(t, report_of(half, half, 2, 0, 2, 2));
+    check_bad_report(t, report_of(1, UINT64_MAX, 2, 0, 2, 2));
+    for (size_t i = 0; i < 66; i++)
+        for (size_t j = 0; j < 3; j++) {
+            struct counted odd = report_of(1, 0, 2, 0, 2, 2);
+            odd.numbers[(i ? 3 + 3 * i : 2) + j] = above[j];
+            check_bad_report(t, odd);
+        }
+}
+
+/* The example has two terms of rank 1 and the weight 2. A byte less of it is refused with 1, and so are no bytes; with its
+ * second coefficient 0 it is refused with 4 at the place 1. A weight is carried over 2^60, and sums go above the limits. */
+static struct tally check_report(void)
+{
+    struct tally t = {"fermion_report_add", 0, 0};
+    static const int8_t zero[][3] = {{1, 1, 1}, {2, 2, 0}};
+    const uint64_t unit = UINT64_C(1) << 60, most = 1 << 21;
+    const struct guarded yes = answer_of(0, 0, 0, 0, 1, 0, 0), no = answer_of(0, 0, 0, 0, 0, 1, 0);
+    const struct counted once = report_of(1, 0, 2, 0, 2, 2), twice = report_of(2, 0, 4, 0, 4, 2);
+    const struct counted and_one_not = report_of(1, 1, 2, 0, 2, 2), room_for_one = report_of(1000, 23, 2, 0, 2, 2);
+    uint8_t wrong[80];
+    record_of(wrong, 2, zero);
+    check_count(&t, example, 80, report_of(0, 0, 0, 0, 0, 0), once, yes);
+    check_count(&t, example, 80, once, twice, yes);
+    check_count(&t, none, 32, once, report_of(2, 0, 2, 0, 2, 2), yes);
+    check_count(&t, example, 79, once, and_one_not, no);
+    check_count(&t, NULL, 0, once, and_one_not, no);
+    check_count(&t, wrong, 80, once, and_one_not, answer_of(0, 0, 0, 0, 0, 4, 1));
+    check_count(&t, example, 80, room_for_one, report_of(1001, 23, 4, 0, 4, 2), yes);
+    check_count(&t, example, 79, room_for_one, report_of(1000, 24, 2, 0, 2, 2), no);
+    check_count(&t, example, 80, report_of(0, 0, 5, 3, unit - 2, 1), report_of(1, 0, 7, 4, 0, 2), yes);
+    check_count(&t, example, 80, report_of(0, 0, most, 1024, unit - 1, UINT64_MAX),
+                report_of(1, 0, most + 2, 1025, 1, UINT64_MAX), yes);
+    check_bad_reports(&t);
+    return t;
+}
+
 /* {|0} times {0|} is {|} - {0|0}, the lower rank first; a byte less is refused with 7; {|0} times {|0} is nothing */
 static struct tally check_mul_cmpnts(void)
 {
@@ -403,6 +474,7 @@ void check_examples(int *passed, int *failed)
         check_test("fermion_conserves_particle_number", fermion_conserves_particle_number, 1, 0, 0),
         check_test("fermion_max_n_body", fermion_max_n_body, 1, 0, 0),
         check_test("fermion_active_modes", fermion_active_modes, 3, 0, 0),
+        check_report(),
         check_stretches(),
         check_element(),
         check_mat_elem("fermion_mat_elem_real", false),

@@ -56,6 +56,7 @@ static size_t used_by(void (*call)(void))
 uint8_t a[FERMION_MAX_RECORD], b[FERMION_MAX_RECORD], out[FERMION_MAX_RECORD], *work;
 size_t a_len, b_len, work_len, lists;
 uint64_t answer[8], cre[FERMION_MAX_TERMS], ann[FERMION_MAX_TERMS], basis[8];
+uint64_t report[FERMION_REPORT], full_report[FERMION_REPORT] = {FERMION_MAX_REPORTED};
 int64_t matrix[64];
 double re[FERMION_MAX_TERMS], im[FERMION_MAX_TERMS], value[2];
 
@@ -133,6 +134,8 @@ static void c_is_hermitian(void) { fermion_is_hermitian(a, a_len, answer); }
 static void c_conserves(void) { fermion_conserves_particle_number(a, a_len, answer); }
 static void c_max_n_body(void) { fermion_max_n_body(a, a_len, answer); }
 static void c_active_modes(void) { fermion_active_modes(a, a_len, answer); }
+static void c_report_add(void) { fermion_report_add(a, a_len, report, answer); }
+static void c_full_report(void) { fermion_report_add(a, a_len, full_report, answer); }
 static void c_block(void) { fermion_block(a, a_len, 7, answer); }
 static void c_element(void) { fermion_element(a, a_len, 5, 7, answer); }
 static void c_matrix(void) { fermion_mat_ortho_projected(a, a_len, basis, 8, matrix, answer); }
@@ -152,7 +155,8 @@ static const struct {
     {"fermion_sub", c_sub}, {"fermion_mul", c_mul}, {"fermion_commutator", c_commutator},
     {"fermion_anticommutator", c_anticommutator}, {"fermion_branches", c_branches}, {"fermion_adjoint", c_adjoint},
     {"fermion_is_hermitian", c_is_hermitian}, {"fermion_conserves_particle_number", c_conserves},
-    {"fermion_max_n_body", c_max_n_body}, {"fermion_active_modes", c_active_modes}, {"fermion_block", c_block},
+    {"fermion_max_n_body", c_max_n_body}, {"fermion_active_modes", c_active_modes}, {"fermion_report_add", c_report_add},
+    {"fermion_report_add, a full report", c_full_report}, {"fermion_block", c_block},
     {"fermion_element", c_element}, {"fermion_mat_ortho_projected", c_matrix}, {"fermion_compare", c_compare},
     {"fermion_mat_elem_real", c_real}, {"fermion_mat_elem_complex", c_complex},
 };
@@ -194,6 +198,7 @@ static void measure_all(size_t most[CALLS])
     expect("18 modes branch: the rows are all written", (c_mul_cmpnts(), answer[4] == (uint64_t)1 << 18));
     long_ones();
     expect("2,048 terms: the adjoint is delivered", (c_adjoint(), answer[0] == 0 && answer[3] == FERMION_MAX_RECORD));
+    expect("the report counts the three records, and what is none", report[0] == 3 && report[1] == 1 && report[2] == 2050);
 }
 
 /* What one branching mode more and one level of the sort more need, and what that comes to with all the memory there can be. */
@@ -259,6 +264,23 @@ static void null_records(void)
     expect("a second record compared", (fermion_compare(a, a_len, 0, 0, answer), refused(1, 2)));
 }
 
+/* A report's record: refused with 1, and not looked at where the report is full. */
+static void null_reported(void)
+{
+    uint64_t rest = 0;
+    for (int i = 0; i < FERMION_REPORT; i++)
+        report[i] = 0;
+    fermion_report_add(0, 0, report, answer);
+    expect("a report's record", answer[6] == 1);
+    answer[6] = 0;
+    expect("a report's record is no refusal of the call", refused(0, 0));
+    for (int i = 0; i < FERMION_REPORT; i++)
+        rest |= i == 1 ? 0 : report[i];
+    expect("a report with one refused record", report[1] == 1 && rest == 0);
+    expect("a full report's record", (fermion_report_add(0, 0, full_report, answer), refused(15, 0)));
+    expect("a full report", full_report[0] == FERMION_MAX_REPORTED && full_report[1] == 0);
+}
+
 static void null_others(void)
 {
     int all = 1;
@@ -294,6 +316,7 @@ int main(void)
     judge("any call, with as much work and output as can be addressed, worked out from those", with_all_memory(), BOUND);
     before = passed;
     null_records();
+    null_reported();
     null_others();
     printf("null pointers with length 0: %u answers as they should be\n", passed - (unsigned)before);
     printf("%u passed, %u failed\n", passed, failed);

@@ -14,26 +14,28 @@ from ._buffers import Readable, Writable
 from ._calls import (
     active_modes, add, adjoint, anticommutator, apply, block, branches, check, commutator, compare,
     conserves_particle_number, element, is_hermitian, mat_elem_complex, mat_elem_real, mat_ortho_projected, max_n_body, mul,
-    mul_cmpnts, sub,
+    mul_cmpnts, report_add, sub,
 )
 from ._face import __version__, load
 from ._float import FloatTerms
 from ._ready import hopping, interaction, number
 from ._record import Product, Record
+from ._report import MAX_REPORTED, Report
 from ._types import (
-    SENTENCES, Applied, Branches, Checked, Columns, Comparison, Reason, Refusal, Term, modes, word,
+    SENTENCES, Applied, Branches, Checked, Columns, Comparison, Counted, Reason, Refusal, Share, Term, modes, word,
 )
 from ._work import MAX_BASIS, MAX_BYTES, MAX_MODES, MAX_TERMS, MAX_WEIGHT, WORK_CEILING
 
 __all__ = [
-    "Applied", "Branches", "Checked", "Columns", "Comparison", "FloatTerms", "MAX_BASIS", "MAX_BYTES", "MAX_MODES",
-    "MAX_TERMS", "MAX_WEIGHT", "Product", "Readable", "Reason", "Record", "Refusal", "SENTENCES", "Term", "WORK_CEILING",
-    "Writable", "__version__", "active_modes", "add", "adjoint", "anticommutator", "apply", "block", "branches", "check",
-    "commutator", "compare", "conserves_particle_number", "element", "hopping", "interaction", "is_hermitian", "load",
-    "mat_elem_complex", "mat_elem_real", "mat_ortho_projected", "max_n_body", "modes", "mul", "mul_cmpnts", "number", "sub",
-    "word",
+    "Applied", "Branches", "Checked", "Columns", "Comparison", "Counted", "FloatTerms", "MAX_BASIS", "MAX_BYTES", "MAX_MODES",
+    "MAX_REPORTED", "MAX_TERMS", "MAX_WEIGHT", "Product", "Readable", "Reason", "Record", "Refusal", "Report", "SENTENCES",
+    "Share", "Term", "WORK_CEILING", "Writable", "__version__", "active_modes", "add", "adjoint", "anticommutator", "apply",
+    "block", "branches", "check", "commutator", "compare", "conserves_particle_number", "element", "hopping", "interaction",
+    "is_hermitian", "load", "mat_elem_complex", "mat_elem_real", "mat_ortho_projected", "max_n_body", "modes", "mul",
+    "mul_cmpnts", "number", "report_add", "sub", "word",
 ]
 
 # Messages and pickles name the package, not the file in which a class stands.
-for _class in (Applied, Branches, Checked, Columns, Comparison, FloatTerms, Product, Reason, Record, Refusal, Term):
+for _class in (Applied, Branches, Checked, Columns, Comparison, Counted, FloatTerms, Product, Reason, Record, Refusal, Report,
+               Share, Term):
     _class.__module__ = __name__

@@ -59,6 +59,10 @@ _get = ctypes.PYFUNCTYPE(ctypes.c_int, ctypes.py_object, ctypes.POINTER(_PyBuffe
 _release = ctypes.PYFUNCTYPE(None, ctypes.POINTER(_PyBuffer))(("PyBuffer_Release", ctypes.pythonapi))
 _BYTES, _WRITABLE = 0, 1  # PyBUF_SIMPLE: one stretch of bytes; PyBUF_WRITABLE: one that can be written
 
+#: What memory for numbers of 64 bits without a sign may be divided into, by Python's `struct`: these numbers, or bytes. One for
+#: floats would be filled with what is no float.
+_NUMBERS = ("Q", "L", "B", "b", "c")
+
 #: Where an empty stretch is said to begin: a null pointer is never passed.
 _NOWHERE = ctypes.c_uint64()
 
@@ -85,6 +89,19 @@ class Held:
         stretch = self._view(memory, _WRITABLE)
         self._written.append(stretch)
         return stretch
+
+    def change(self, memory: Any, count: int) -> int:
+        """Where so many numbers of 64 bits begin, in memory that is read and written in the same call."""
+        with memoryview(memory) as view:
+            kind = view.format
+        if kind.lstrip("@=<") not in _NUMBERS:
+            raise TypeError(f"{type(memory).__name__}: its items are {kind!r}, not numbers of 64 bits without a sign")
+        start, length = self.write(memory)
+        if length != 8 * count:
+            raise ValueError(f"memory for {count} numbers of 64 bits has {8 * count} bytes, not {length}")
+        if start % 8:
+            raise ValueError("memory for numbers of 64 bits begins at an address that 8 divides")
+        return start
 
     def keep_apart(self) -> None:
         """What is lent for writing overlaps nothing else of the call."""

@@ -9,7 +9,8 @@ from ._buffers import Readable, Writable, as_floats, as_parts, as_word, as_words
 from ._face import call
 from ._matrix import projected, signed
 from ._record import Product, Record
-from ._types import TERM, Applied, Branches, Checked, Comparison, Term, Whole, parts
+from ._report import counted
+from ._types import TERM, Applied, Branches, Checked, Comparison, Counted, Term, Whole, parts
 from ._work import HEADER, ROW, WORK_CEILING, adjoined, front, multiplied, summed, with_rows
 
 
@@ -164,6 +165,26 @@ def active_modes(a: Readable) -> int:
     [0, 2, 63]
     """
     return _told("active_modes", a)
+
+
+def report_add(a: Readable, report: Writable) -> Counted:
+    """One record counted into a report: memory of 201 numbers of 64 bits, all zero at first, which are read and changed.
+
+    A record that is refused raises nothing: it adds one to the refused records, and the answer has its refusal. Refusal: 15,
+    for a report that counts 1,024 records, and for one with a number above its limit; the record is then not looked at, and
+    the report is left as it was. It overlaps nothing else of the call; that is a ValueError. `Report` has the numbers by
+    name.
+
+    >>> from array import array
+    >>> report = array("Q", [0] * 201)
+    >>> report_add(Record.build(2, [(1, 1, 4), (2, 2, -6)]), report)
+    Counted(accepted=True, refusal=None)
+    >>> print(report_add(b"no record", report).refusal.reason.name)
+    MALFORMED
+    >>> report[:6].tolist(), Report(report).weight
+    ([1, 1, 2, 0, 10, 10], 10)
+    """
+    return counted(a, report)
 
 
 def block(a: Readable, ann: Whole) -> memoryview:

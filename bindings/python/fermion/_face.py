@@ -18,13 +18,16 @@ FOLDER = Path(__file__).resolve().parent
 FILE = "libfermion.so"
 
 # What each function takes before its answer. u: a word; r: bytes to read; w: words to read; d: floats to read; o: memory
-# lent for writing, with its length; f: an array of a fixed length for values.
+# lent for writing, with its length; f: an array of a fixed length for values; c: a report's numbers, which are changed.
 SHAPES = {
     "apply": "uuu", "mul_cmpnts": "uuuuo", "check": "r", "add": "rro", "sub": "rro", "mul": "rroo", "commutator": "rroo",
     "anticommutator": "rroo", "adjoint": "ro", "is_hermitian": "r", "conserves_particle_number": "r", "max_n_body": "r",
     "active_modes": "r", "block": "ru", "element": "ruu", "mat_ortho_projected": "rwf", "compare": "rr", "branches": "rr",
-    "mat_elem_real": "uwwduuf", "mat_elem_complex": "uwwdduuf",
+    "report_add": "rc", "mat_elem_real": "uwwduuf", "mat_elem_complex": "uwwdduuf",
 }
+
+#: How many numbers a report has.
+REPORT = 201
 
 _Answer = ctypes.c_uint64 * 8
 _libraries: List[ctypes.CDLL] = []  # the last is in use
@@ -74,7 +77,7 @@ def _places(folder: Path) -> List[Path]:
 def _ctypes_of(letter: str) -> List[Any]:
     if letter == "u":
         return [ctypes.c_uint64]
-    return [ctypes.c_void_p] if letter == "f" else [ctypes.c_void_p, ctypes.c_size_t]
+    return [ctypes.c_void_p] if letter in "fc" else [ctypes.c_void_p, ctypes.c_size_t]
 
 
 def function(name: str) -> Any:
@@ -114,4 +117,6 @@ def _passed(letter: str, arg: Any, held: Held) -> Sequence[Any]:
         return (arg,)
     if letter in "wd":
         return place_of(arg)
+    if letter == "c":
+        return (held.change(arg, REPORT),)
     return held.write(arg) if letter == "o" else held.read(arg)

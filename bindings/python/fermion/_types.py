@@ -30,6 +30,7 @@ class Reason(IntEnum):
     OCCUPATION_OUTSIDE = 12
     NOT_FINITE = 13
     BAD_BASIS = 14
+    BAD_REPORT = 15
 
 
 #: The refusals in words.
@@ -49,6 +50,7 @@ SENTENCES = {
     12: "a bra, a ket or a basis word is outside the modes",
     13: "a float coefficient or a running sum is not finite",
     14: "the basis has more than 8 words, or a word twice",
+    15: "the report counts 1,024 records, or one of its numbers is above its limit",
 }
 
 
@@ -138,6 +140,28 @@ class Comparison(NamedTuple):
     equal: bool
     bra: Optional[int] = None
     ket: Optional[int] = None
+
+
+class Counted(NamedTuple):
+    """Whether a record was accepted into a report; if not, its own refusal, which is told and not raised. It is true where the
+    record was accepted.
+
+    >>> bool(Counted(True)), bool(Counted(False, Refusal(1, 1, 0)))
+    (True, False)
+    """
+
+    accepted: bool
+    refusal: Optional[Refusal] = None
+
+    def __bool__(self) -> bool:
+        return self.accepted
+
+
+class Share(NamedTuple):
+    """How many of a report's terms have one rank, and their weight."""
+
+    terms: int
+    weight: int
 
 
 class Columns(NamedTuple):

@@ -27,6 +27,30 @@ def branching(count):
     return Record.build(count, [(0, full, 1)]), Record.build(count, [(full, 0, 1)])
 
 
+def rank(cre, ann):
+    """The rank of a term: half of its creations and annihilations, rounded down."""
+    return (bin(cre).count("1") + bin(ann).count("1")) // 2
+
+
+def figures(batch):
+    """The 201 numbers of the report over a batch, which has a record's terms, and None for one that is refused."""
+    accepted = [list(terms) for terms in batch if terms is not None]
+    every = [term for terms in accepted for term in terms]
+    by_rank = [[] for _ in range(65)]
+    for cre, ann, coeff in every:
+        by_rank[rank(cre, ann)].append((cre, ann, coeff))
+    numbers = [len(accepted), len(batch) - len(accepted), *_share(every), max(map(_weight, accepted), default=0)]
+    return numbers + [number for terms in by_rank for number in _share(terms)]
+
+
+def _weight(terms):
+    return sum(abs(coeff) for _, _, coeff in terms)
+
+
+def _share(terms):
+    return len(terms), _weight(terms) // 2**60, _weight(terms) % 2**60
+
+
 class Refused:
     """Expects a refusal with these three numbers."""
 

@@ -39,6 +39,7 @@ class Handed(unittest.TestCase):
             self.assertEqual(fermion.adjoint(data), a, kind)
             self.assertEqual(fermion.mat_ortho_projected(data, [1, 2]), [[1, 0], [0, -1]], kind)
             self.assertEqual(bytes(fermion.block(data, 2)).hex(), "0200000000000000", kind)
+            self.assertTrue(fermion.report_add(data, array.array("Q", [0] * 201)).accepted, kind)
             self.assertEqual(Record(data), a, kind)
 
     def peak_of_check(self, data):
@@ -71,6 +72,7 @@ class Handed(unittest.TestCase):
         for wrong in (5, None, "text", [1, 2], object(), memoryview(EXAMPLE)[::2]):
             self.assertRaises(TypeError, fermion.check, wrong)
             self.assertRaises(TypeError, fermion.add, EXAMPLE, wrong)
+            self.assertRaises(TypeError, fermion.report_add, wrong, array.array("Q", [0] * 201))
             self.assertRaises(TypeError, Record, wrong) if not isinstance(wrong, memoryview) else None
 
     def test_memory_is_held_no_longer_than_the_call(self):

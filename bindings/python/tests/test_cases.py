@@ -140,6 +140,9 @@ class Records(unittest.TestCase):
                 with Refused(self, numbers[0], 2, numbers[2]):
                     call(EXAMPLE, data)
             self.assertEqual(bytes(fermion.block(data, 1)), b"")
+            report = fermion.Report()  # which goes on
+            self.assertEqual(report.add(data).refusal.args, numbers)
+            self.assertEqual(report.numbers, (0, 1, *[0] * 199))
 
 
 class Operators(unittest.TestCase):

@@ -64,7 +64,8 @@ class Documents(unittest.TestCase):
         constants = dict(re.findall(r"#define FERMION_(\w+) +(.*?) *(?:/\*.*)?$", header, re.M))
         self.assertEqual(constants["VERSION"], f'"{fermion.__version__}"')
         for name, number in [("MAX_MODES", fermion.MAX_MODES), ("MAX_TERMS", fermion.MAX_TERMS), ("MAX_RECORD", fermion.MAX_BYTES),
-                             ("MAX_BASIS", fermion.MAX_BASIS), ("ROW", _work.ROW)]:
+                             ("MAX_BASIS", fermion.MAX_BASIS), ("ROW", _work.ROW), ("REPORT", _face.REPORT),
+                             ("MAX_REPORTED", fermion.MAX_REPORTED)]:
             self.assertEqual(int(constants[name]), number, name)
         self.assertRegex(constants["MAX_WEIGHT"], r"\b1\)? << 60\b|\b1152921504606846976")
         self.assertEqual(fermion.MAX_WEIGHT, 1 << 60)

@@ -3,9 +3,10 @@ import random
 import struct
 import sys
 import unittest
+from array import array
 from pathlib import Path
 
-from common import told
+from common import figures, told
 
 import fermion
 from fermion import FloatTerms, Record, Refusal, Term
@@ -247,6 +248,18 @@ class Drawn(unittest.TestCase):
             answer = records.adjoint(a, len(out))
             self.assertEqual(outcome(fermion.adjoint, a, out=out), expected(answer, lambda it: Record(in_out(it))))
             self.assertEqual(out, answer.lent[0])
+
+    def test_reports(self):
+        for _ in range(CASES // 10):
+            batch = [self.one() for _ in range(self.rng.randint(0, 20))]
+            report, own = fermion.Report(), array("Q", [0] * 201)
+            for a in batch:
+                fault = records.refusal(a, 1)
+                for answer in (report.add(a), fermion.report_add(a, own)):
+                    self.assertEqual((answer.accepted, answer.refusal and answer.refusal.args), (not fault, fault or None))
+            known = [None if records.refusal(a, 1) else terms(records.decode(a)[1]) for a in batch]
+            self.assertEqual(list(report.numbers), figures(known))
+            self.assertEqual(own.tolist(), figures(known))
 
     def test_blocks(self):
         for _ in range(CASES):

@@ -22,10 +22,10 @@ LIBRARY = Path(os.environ.get("FERMION_LIB") or PACKAGE.parents[2] / "target" / 
 USE = '''
 import mmap
 from array import array
-from typing import List
+from typing import List, Optional, Tuple
 
 import fermion
-from fermion import FloatTerms, Product, Record, Reason, Refusal, Term, commutator, word
+from fermion import Counted, FloatTerms, Product, Record, Reason, Refusal, Report, Share, Term, commutator, word
 
 a: Record = Record.build(2, [(word(0), word(1), 1)])
 b: Record = Record.ladders(2, [(1, 1), (0, 0)], coeff=3)
@@ -42,6 +42,11 @@ matrix: List[List[int]] = sums.matrix(range(4))
 real: float = FloatTerms(2, [(1, 1, 0.5)]).element(1, 1)
 complexes: List[List[complex]] = FloatTerms.from_ladders(2, {((0, 1), (1, 0)): 0.5j}).matrix([1, 2], [1, 2])
 ready: Record = fermion.number(2) * fermion.hopping(2, 0, 1) + fermion.interaction(2, 0, 1)
+report: Report = Report.of([a, bytes(b), commutator(a, b)])
+counted: Counted = report.add(bytearray(bytes(a)))
+own: Optional[Refusal] = fermion.report_add(b"", array("Q", report.numbers)).refusal
+shares: Tuple[Share, ...] = Report.from_bytes(bytes(report)).ranks
+weight: int = Report(report.numbers).weight + shares[1].weight if counted else report.largest
 try:
     a.element(4, 4)
 except Refusal as refusal:
@@ -238,6 +243,7 @@ class Types(unittest.TestCase):
         exec(USE, names)
         self.assertEqual((names["number"], names["real"], names["complexes"]), (12, 0.5, [[0j, 0.5j], [0j, 0j]]))
         self.assertEqual((names["read"], bytes(names["room"])), (1 + 2 + 56 + 1, bytes(80)))
+        self.assertEqual((names["weight"], names["own"].args), (2 * (1 + 3 + 6 + 1), (1, 1, 0)))
 
 
 class Memory(unittest.TestCase):

@@ -1,6 +1,6 @@
 use crate::face::{self, List, Multiplies, Reads, Sums};
 use crate::record::HEADER;
-use crate::{Reason, Record, Refusal, Rows, Term, MAX_BYTES, MAX_MODES, MAX_TERMS, ROW};
+use crate::{Counted, Reason, Record, Refusal, Rows, Term, MAX_BYTES, MAX_MODES, MAX_TERMS, REPORT, ROW};
 
 /// The most words that a basis may have.
 pub const MAX_BASIS: usize = 8;
@@ -431,6 +431,28 @@ pub fn max_n_body(a: &(impl AsRef<[u8]> + ?Sized)) -> Result<u64, Refusal> {
 /// ```
 pub fn active_modes(a: &(impl AsRef<[u8]> + ?Sized)) -> Result<u64, Refusal> {
     told(face::ACTIVE_MODES, a.as_ref())
+}
+
+/// One record counted into a report: numbers that are all zero at first, and that are handed on from call to call.
+///
+/// A record that is refused is no refusal of the call: it adds one to the refused records, and the answer has its refusal.
+/// Refusal: 15, for a report that counts 1,024 records, and for one with a number above its limit; the record is then not
+/// looked at, and the report is left as it was. [`crate::Report`] has the numbers by name.
+///
+/// ```
+/// use fermion::{report_add, Counted, Record, Report, REPORT};
+/// let mut numbers = [0; REPORT];
+/// assert_eq!(report_add(&Record::build(2, [(1, 1, 4), (2, 2, -6)])?, &mut numbers)?, Counted::Accepted);
+/// assert!(!report_add(b"no record", &mut numbers)?.is_accepted());
+/// assert_eq!(numbers[..6], [1, 1, 2, 0, 10, 10]);
+/// assert_eq!(Report::from_numbers(numbers).weight(), 10);
+/// # Ok::<(), fermion::Refusal>(())
+/// ```
+pub fn report_add(a: &(impl AsRef<[u8]> + ?Sized), report: &mut [u64; REPORT]) -> Result<Counted, Refusal> {
+    Ok(match face::report_add(a.as_ref(), report)? {
+        [.., 1, _, _] => Counted::Accepted,
+        [.., number, place] => Counted::Refused(Refusal::new(number, 1, place)),
+    })
 }
 
 /// The creation words of the terms with one annihilation word, as a part of the caller's own bytes.

@@ -9,7 +9,7 @@
 //! memory. Each `SAFETY` below refers to this.
 #![allow(unsafe_code)]
 
-use crate::Refusal;
+use crate::{Refusal, REPORT};
 
 /// The eight numbers of an answer that is not a refusal.
 pub(crate) type Answer = [u64; 8];
@@ -65,6 +65,7 @@ extern "C" {
     fn fermion_conserves_particle_number(a: Bytes, a_len: usize, answer: Numbers);
     fn fermion_max_n_body(a: Bytes, a_len: usize, answer: Numbers);
     fn fermion_active_modes(a: Bytes, a_len: usize, answer: Numbers);
+    fn fermion_report_add(a: Bytes, a_len: usize, report: Numbers, answer: Numbers);
     fn fermion_block(a: Bytes, a_len: usize, ann: u64, answer: Numbers);
     fn fermion_element(a: Bytes, a_len: usize, bra: u64, ket: u64, answer: Numbers);
     fn fermion_mat_ortho_projected(
@@ -192,6 +193,11 @@ pub(crate) fn mul_cmpnts(left: (u64, u64), right: (u64, u64), out: &mut [u8]) ->
 pub(crate) fn adjoint(a: &[u8], out: &mut [u8]) -> Result<Answer, Refusal> {
     // SAFETY: slices, `out` borrowed exclusively, and eight numbers.
     answered(|answer| unsafe { fermion_adjoint(a.as_ptr(), a.len(), out.as_mut_ptr(), out.len(), answer) })
+}
+
+pub(crate) fn report_add(a: &[u8], report: &mut [u64; REPORT]) -> Result<Answer, Refusal> {
+    // SAFETY: a slice, a report's numbers borrowed exclusively, and eight numbers.
+    answered(|answer| unsafe { fermion_report_add(a.as_ptr(), a.len(), report.as_mut_ptr(), answer) })
 }
 
 pub(crate) fn block(a: &[u8], ann: u64) -> Answer {

@@ -51,10 +51,12 @@ pub enum Reason {
     NotFinite = 13,
     /// The basis has more than 8 words, or a word twice.
     BadBasis = 14,
+    /// The report counts 1,024 records, or one of its numbers is above its limit.
+    BadReport = 15,
 }
 
 /// All of them.
-const EACH: [Reason; 14] = [
+const EACH: [Reason; 15] = [
     Reason::Malformed,
     Reason::WordOutside,
     Reason::OutOfOrder,
@@ -69,6 +71,7 @@ const EACH: [Reason; 14] = [
     Reason::OccupationOutside,
     Reason::NotFinite,
     Reason::BadBasis,
+    Reason::BadReport,
 ];
 
 impl Reason {
@@ -97,6 +100,7 @@ impl Reason {
             Reason::OccupationOutside => "a bra, a ket or a basis word is outside the modes",
             Reason::NotFinite => "a float coefficient or a running sum is not finite",
             Reason::BadBasis => "the basis has more than 8 words, or a word twice",
+            Reason::BadReport => "the report counts 1,024 records, or one of its numbers is above its limit",
         }
     }
 }

@@ -2,7 +2,7 @@
 mod common;
 
 use common::{one, refusal, EXAMPLE};
-use fermion::{apply, word, Branches, Checked, Comparison, Outcome, Record, Refusal, Term};
+use fermion::{apply, word, Branches, Checked, Comparison, Outcome, Record, Refusal, Report, Term};
 
 fn applied(word: u64, sign: i64) -> Outcome {
     Outcome::Applied { word, sign }
@@ -101,6 +101,7 @@ fn a_product_is_taken_wherever_a_record_is() -> Result<(), Refusal> {
     assert_eq!(fermion::block(&inner, word(&[2])), 1u64.to_le_bytes());
     assert!(fermion::is_hermitian(&outer)? && fermion::conserves_particle_number(&outer)?);
     assert_eq!((fermion::max_n_body(&outer)?, fermion::active_modes(&outer)?), (1, word(&[0, 2])));
+    assert!(Report::new().add(&inner)?.is_accepted());
     Ok(())
 }
 

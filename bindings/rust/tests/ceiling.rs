@@ -8,7 +8,7 @@ use std::ptr::null_mut;
 use std::time::{Duration, Instant};
 
 use common::{one, refusal};
-use fermion::{Branches, Product, Record, Refusal, WORK_CEILING};
+use fermion::{Branches, Counted, Product, Record, Refusal, Report, WORK_CEILING};
 
 struct Counting;
 
@@ -127,6 +127,15 @@ fn exactly_what_is_needed_is_taken_up_to_the_ceiling() {
     // In the other order it is one row.
     let (answer, taken) = largest(|| fermion::mul(&b, &a));
     assert_eq!((answer.unwrap().branches, taken), (1, 56));
+}
+
+#[test]
+fn a_report_takes_nothing() {
+    let (a, mut report) = (one(64, 1, 1, 1), Report::new());
+    for (bytes, accepted) in [(a.as_bytes(), true), (&[][..], false)] {
+        let (answer, taken) = largest(|| report.add(bytes));
+        assert_eq!((answer.map(Counted::is_accepted), taken), (Ok(accepted), 0));
+    }
 }
 
 #[test]

@@ -4,7 +4,7 @@ mod common;
 use std::collections::HashSet;
 
 use common::{one, refusal, EXAMPLE};
-use fermion::{Record, Refusal, Term};
+use fermion::{Counted, Record, Refusal, Report, Term};
 
 #[test]
 fn the_example_is_read_and_built() -> Result<(), Refusal> {
@@ -86,6 +86,8 @@ fn every_refusal_of_a_record_by_every_call() {
         assert_eq!(refusal(fermion::element(&bytes, 99, 99)), first);
         assert_eq!(refusal(fermion::mat_ortho_projected(&bytes, &[99; 9])), first);
         assert!(fermion::block(&bytes, 1).is_empty());
+        let own = Refusal { number, operand: 1, place };
+        assert_eq!(Report::new().add(&bytes), Ok(Counted::Refused(own))); // a report goes on
         for (a, b, operand) in [(&bytes[..], &[][..], 1), (&EXAMPLE[..], &bytes[..], 2)] {
             let numbers = (number, operand, place);
             assert_eq!(refusal(fermion::add(a, b)), numbers);

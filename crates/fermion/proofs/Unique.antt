@@ -5,9 +5,10 @@ use Prim.Native.Nat.{ℕ}
 use lib.IntN.{ℤ}
 use lib.Ieee.{Float}
 use Rattle.lent.specs.Outputs.{Output}
+use Rattle.record.specs.Operands.{Operand}
 use Rattle.mat_elem.specs.declared.Projected.{Projected}
 use Rattle.float_elem.specs.Answers.{Told}
-use Rattle.fermion.specs.Face.{Fills, FillsClean, FillsFloat, FillsMatrix}
+use Rattle.fermion.specs.Face.{Fills, FillsClean, FillsFloat, FillsMatrix, FillsReport}
 
 -- once for every call that fills no output: its promise names the eight numbers
 pub answer-one : {numbers answer answer′ : List ℕ} → answer ≡ numbers → answer′ ≡ numbers → answer ≡ answer′
@@ -32,3 +33,8 @@ fills-float-one g h = (g .floats ∙ sym (h .floats), g .numbers ∙ sym (h .num
 pub matrix-one : {p : Projected} {matrix matrix′ : List ℤ} {answer answer′ : List ℕ} → FillsMatrix p matrix answer → FillsMatrix p matrix′ answer′
     → (matrix ≡ matrix′) × (answer ≡ answer′)
 matrix-one g h = (g .entries ∙ sym (h .entries), g .numbers ∙ sym (h .numbers))
+
+-- the call that changes a report
+pub report-one : {l : List ℕ} {a : Operand} {report report′ answer answer′ : List ℕ} → FillsReport l a report answer → FillsReport l a report′ answer′
+    → (report ≡ report′) × (answer ≡ answer′)
+report-one g h = (g .figures ∙ sym (h .figures), g .numbers ∙ sym (h .numbers))

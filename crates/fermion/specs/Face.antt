@@ -19,6 +19,9 @@ use Rattle.record.specs.declared.Checked.{Checked}
 use Rattle.record.specs.declared.Tested.{Tested}
 use Rattle.figures.specs.declared.Measured.{Measured}
 use Rattle.record.specs.declared.Stretch.{Stretch}
+use Rattle.record.specs.Operands.{Operand}
+use Rattle.report.specs.Reports.{reportAfter, countedOf}
+use Rattle.report.specs.declared.Counted.{Counted}
 use Rattle.mat_elem.specs.declared.Exact.{Exact}
 use Rattle.float_elem.specs.Sums.{plusZero}
 use Rattle.float_elem.specs.Answers.{Told}
@@ -92,6 +95,15 @@ comparedAnswer c = answered (c .refusal) (cond (c .equal) 1 0) (c .bra) (c .ket)
 -- the branches of the products a b and b a
 abbrev pub branchesAnswer : BranchCounts → List ℕ
 branchesAnswer c = c .refusal .number ∷ c .refusal .operand ∷ c .refusal .place ∷ 0 ∷ c .forward ∷ c .backward ∷ 0 ∷ 0 ∷ []
+
+-- a record counted into a report: 1 where it is accepted, and the number and the place of its own refusal
+abbrev pub countedAnswer : Counted → List ℕ
+countedAnswer c = answered (c .refusal) (cond (c .accepted) 1 0) (c .own .number) (c .own .place)
+
+-- the report and the answer at the end are those of the record a counted into the report l
+pub record FillsReport (l : List ℕ) (a : Operand) (report answer : List ℕ) : Type 0 where
+  pub figures : report ≡ reportAfter l a
+  pub numbers : answer ≡ countedAnswer (countedOf l a)
 
 -- the rows of a matrix one after the other
 unfoldable pub inRows : List Row → List ℤ

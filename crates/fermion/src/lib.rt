@@ -20,7 +20,7 @@ ghost use Rattle.record.specs.Refusals.{checkedOf};
 ghost use Rattle.record.specs.Blocks.{blockOf};
 ghost use Rattle.figures.specs.Figures.{conservesOf, maxNBodyOf, activeModesOf};
 ghost use Rattle.fermion.specs.Face.{applyAnswer, writtenAnswer, answered, checkedAnswer, testedAnswer, measuredAnswer, stretchAnswer, elementAnswer, Fills, FillsClean};
-ghost use Rattle.fermion.specs.Face.{floatValues, floatAnswer, FillsFloat, comparedAnswer, branchesAnswer, inRows, FillsMatrix};
+ghost use Rattle.fermion.specs.Face.{floatValues, floatAnswer, FillsFloat, comparedAnswer, branchesAnswer, FillsReport, inRows, FillsMatrix};
 use figures::Measured;
 use float_elem::FloatElement;
 use mat_elem::Projected;
@@ -211,6 +211,15 @@ pub extern "C" fn fermion_active_modes(a: &[u8], answer: &mut [u64; 8])
     ensures { λ _. ⌜ now (answer .exit) ≡ measuredAnswer (activeModesOf (readAs 1 (now (a .entry)))) ⌝ }
 {
     *answer = measured(figures::active_modes(a));
+}
+
+#[no_mangle]
+pub extern "C" fn fermion_report_add(a: &[u8], report: &mut [u64; 201], answer: &mut [u64; 8])
+    ensures { λ _. ⌜ FillsReport (now (report .entry)) (readAs 1 (now (a .entry))) (now (report .exit)) (now (answer .exit)) ⌝ }
+{
+    let c = report::add(a, report);
+    let own = c.own;
+    *answer = answer_of(c.refusal, flag(c.accepted), own.number, own.place);
 }
 
 #[no_mangle]

@@ -1,7 +1,7 @@
 -- No two answers meet a promise of this crate.
 use mathlib.Core.Path.{_≡_}
 use Rattle.record.specs.Operands.{Operand}
-use Prim.Native.Nat.{ℕ, _≤_}
+use Prim.Native.Nat.{ℕ, _≤_, max}
 use Rattle.modes.specs.declared.Term.{Term}
 use Rattle.modes.proofs.Unique.{one}
 use Rattle.record.specs.declared.Tested.{Tested}
@@ -10,6 +10,9 @@ use Rattle.figures.specs.declared.Measured.{Measured}
 
 pub one-rank : (t : Term) (r s : ℕ) → (r ≡ rankOf t) × (r ≤ 64) → (s ≡ rankOf t) × (s ≤ 64) → r ≡ s
 one-rank t r s p q = one (p .0) (q .0)
+
+pub one-larger : (x y r s : ℕ) → r ≡ max x y → s ≡ max x y → r ≡ s
+one-larger x y r s = one
 
 pub one-conserving : (a : Operand) (r s : Tested) → r ≡ conservesOf a → s ≡ conservesOf a → r ≡ s
 one-conserving a r s = one

@@ -28,7 +28,8 @@ fn is_conserving(t: Term) -> bool
     modes::modes_in(t.cre) == modes::modes_in(t.ann)
 }
 
-fn larger(x: u64, y: u64) -> u64
+// The larger of two numbers.
+pub fn larger(x: u64, y: u64) -> u64
     ensures { λ r. ⌜ r ≡ max x y ⌝ }
 {
     if x < y { y } else { x }

@@ -20,6 +20,7 @@ ghost use Rattle.record.specs.Reading.{At, Holds};
 ghost use Rattle.lent.specs.Outputs.{Gives, filledOutput};
 ghost use Rattle.modes.specs.Counts.{count};
 ghost use Rattle.record.specs.Weights.{heavierBy};
+ghost use Rattle.record.specs.Checks.{headedOf, weighedAs};
 ghost use Rattle.record.specs.Counting.{countIf, earlier};
 ghost use Rattle.record.specs.Blocks.{annBelow, blockOf, bytesIn};
 
@@ -40,7 +41,7 @@ pub struct Checked {
 }
 
 impl Checked {
-    fn refused(refusal: Refusal) -> Checked
+    pub fn refused(refusal: Refusal) -> Checked
         ensures { λ r. ⌜ r ≡ refusedRecord refusal ⌝ }
     {
         Checked {
@@ -228,6 +229,40 @@ pub fn heavier(w: u64, k: u64) -> u64
     if w <= HEAVIEST { w + k } else { w }
 }
 
+// Numbers 2, 3 and 4 of the term t, which stands first or after `last`. Whatever checks terms judges them by this.
+pub fn judge(
+    space: ModeSpace,
+    operand: u64,
+    place: u64,
+    first: bool,
+    last: Term,
+    t: Term,
+) -> Refusal
+    ensures { λ r. ⌜ r ≡ termRefusal operand (space .count) place (first || before last t) t ⌝ }
+{
+    let up = follows(first, last, t);
+    term_refusal(space, operand, place, up, t)
+}
+
+// What a check of n terms on m modes found, of which none was refused: number 5, or that the record is accepted.
+pub fn weighed(operand: u64, m: u64, n: usize, w: u64) -> Checked
+    ensures { λ r. ⌜ r ≡ weighedAs operand m n w ⌝ }
+{
+    if HEAVIEST < w {
+        return Checked::refused(Refusal {
+            number: 5,
+            operand,
+            place: 0,
+        });
+    }
+    Checked {
+        refusal: Refusal::NONE,
+        modes: m,
+        terms: n,
+        weight: w,
+    }
+}
+
 // The check of n terms on m modes, once the header is right.
 fn check_terms(s: &[u8], operand: u64, m: u64, n: usize) -> Checked
     requires { ⌜ (laidOut (now s) ≡ true) × (m ≡ modesOf (now s)) × (n ≡ countOf (now s)) ⌝ }
@@ -244,8 +279,7 @@ fn check_terms(s: &[u8], operand: u64, m: u64, n: usize) -> Checked
     let mut i = 0;
     while i < n {
         let t = read_term(s, n, i);
-        let up = follows(first, last, t);
-        let r = term_refusal(space, operand, i as u64, up, t);
+        let r = judge(space, operand, i as u64, first, last, t);
         if r.number != 0 {
             return Checked::refused(r);
         }
@@ -254,24 +288,12 @@ fn check_terms(s: &[u8], operand: u64, m: u64, n: usize) -> Checked
         last = t;
         i += 1;
     }
-    if HEAVIEST < w {
-        return Checked::refused(Refusal {
-            number: 5,
-            operand,
-            place: 0,
-        });
-    }
-    Checked {
-        refusal: Refusal::NONE,
-        modes: m,
-        terms: n,
-        weight: w,
-    }
+    weighed(operand, m, n, w)
 }
 
-// Are the bytes a record? The answer for any bytes, with the operand that the caller names.
-pub fn check(s: &[u8], operand: u64) -> Checked
-    ensures { λ r. ⌜ r ≡ checkedOf operand (now (s .entry)) ⌝ }
+// Number 1, or the modes and the number of terms that the header tells. Whatever checks a record begins by this.
+pub fn read_header(s: &[u8], operand: u64) -> Checked
+    ensures { λ r. ⌜ r ≡ headedOf operand (now (s .entry)) ⌝ }
 {
     if !laid_out(s) {
         return Checked::refused(Refusal {
@@ -280,8 +302,26 @@ pub fn check(s: &[u8], operand: u64) -> Checked
             place: 0,
         });
     }
-    let m = lent::half(s, 4) as u64;
-    let n = lent::half(s, 8);
+    let modes = lent::half(s, 4) as u64;
+    let terms = lent::half(s, 8);
+    Checked {
+        refusal: Refusal::NONE,
+        modes,
+        terms,
+        weight: 0,
+    }
+}
+
+// Are the bytes a record? The answer for any bytes, with the operand that the caller names.
+pub fn check(s: &[u8], operand: u64) -> Checked
+    ensures { λ r. ⌜ r ≡ checkedOf operand (now (s .entry)) ⌝ }
+{
+    let h = read_header(s, operand);
+    if h.refusal.number != 0 {
+        return h;
+    }
+    let m = h.modes;
+    let n = h.terms;
     check_terms(s, operand, m, n)
 }
 

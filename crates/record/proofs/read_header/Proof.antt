@@ -1,0 +1,33 @@
+-- `record::read_header` meets its contract, for any bytes.
+use native.Mathlib.Omega.{arith}
+use mathlib.Core.Path.{sym, _∙_}
+use borrow.Author.Tests.{not-true, not-false}
+use Rattle.record.proofs.Header.{laid}
+use Rattle.record.proofs.Checking.{header-bad, header-good}
+use borrow.Author.Needs.{needs}
+use Rattle.record.proofs.read_header.Statement.{statement}
+use Rattle.record.proofs.read_header.Tie as tie
+
+laid-out-requires : tie.Need-laid-out-requires
+laid-out-requires c κs = search needs
+
+refused-requires : tie.Need-refused-requires
+refused-requires c κs = search needs
+
+returns : tie.Need-returns
+returns c = c .refused .ensures ∙ header-bad _ _ (sym (c .before .before .laid-out .ensures) ∙ not-true _ (c .before .if1 .taken))
+
+half-requires : tie.Need-half-requires
+half-requires c κs = omega (arith, laid _ (sym (c .before .laid-out .ensures) ∙ not-false _ (c .if1 .left)) .size)
+
+half-requires-2 : tie.Need-half-requires-2
+half-requires-2 c κs = omega (arith, laid _ (sym (c .before .before .laid-out .ensures) ∙ not-false _ (c .before .if1 .left)) .size)
+
+returns-2 : tie.Need-returns-2
+returns-2 c =
+    rw (c .before .half .ensures .0, c .half2 .ensures .0) (header-good _ _ (sym (c .before .before .before .laid-out .ensures) ∙ not-false _ (c .before .before .if1 .left)))
+
+pub read-header-spec : {M : Type 1} → statement M
+read-header-spec =
+    tie.close
+    (tie.spec laid-out-requires refused-requires returns half-requires half-requires-2 returns-2)

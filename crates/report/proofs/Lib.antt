@@ -1,0 +1,10 @@
+pub mod Limits
+pub mod Growing
+pub mod Merging
+pub mod Accepting
+pub mod Numbers
+pub mod Counting
+pub mod Orders
+pub mod Batches
+pub mod Theorems
+pub mod Unique
