@@ -360,6 +360,31 @@ def check_one_rank(calls):
                 calls.tally.same("2,048 terms of one rank: by formula", report[at:at + 3], told, (rank, low))
 
 
+# Weights
+
+
+def heavy():
+    """Coefficients whose magnitudes sum to more than 2^60; some of the sums are 2^64, which is 0 in 64 bits, or a little more."""
+    least, most = -2**63, 2**63 - 1
+    few = [[least], [most], [2**60 + 1], [2**60, 1], [1, 2**60], [2**60, -2**60], [2**61 - 1], [2**61 - 1, 1], [2**61], [2**62] * 2]
+    wrapped = [[least] * 2, [most, most, 2], [least, most, 1], [2**62] * 4, [-2**62] * 4 + [1], [2**61] * 8, [least] * 3,
+               [least] * 2 + [5], [2**60] * 16, [2**53] * 2048, [least] * 2048, [2**62] * 2047 + [2**62 + 1]]
+    return few + wrapped
+
+
+def check_heavy(calls):
+    """Refused with 5, with all terms of one rank and of many, also where a sum in 64 bits would be small; not one is counted."""
+    rng = calls.rng
+    for sizes, rank in itertools.product(heavy(), (1, 30, None)):
+        n = len(sizes)
+        words = of_one_rank(rng, rank, n) if rank else sorted({term(rng, rng.randint(0, 128)): 0 for _ in range(9 * n)})[:n]
+        assert len(words) == n and records.weight([(0, 0, c) for c in sizes]) > HEAVIEST
+        a = records.encode(64, [(*row[:2], c) for row, c in zip(words, rng.sample(sizes, n))])
+        answer = calls.judge("weights above 2^60, and sums that wrap", "report_add", a, FRESH)
+        told = records.Answer([0, 0, 0, 0, 0, 0, 5, 0], (records.words(with_numbers(FRESH, 1, 1)),))
+        calls.tally.same("weights above 2^60, and sums that wrap: by hand", answer, told, (sizes[:4], n))
+
+
 # Whole reports, drawn
 
 
@@ -396,5 +421,6 @@ def check_drawn_reports(calls):
 
 run(SEED, (
     check_example, check_drawn, check_order, check_alike, check_refused, check_counts, check_shares, check_largest,
-    check_unlike, check_passed, check_not_looked_at, check_ranks, check_one_term, check_one_rank, check_drawn_reports,
+    check_unlike, check_passed, check_not_looked_at, check_ranks, check_one_term, check_one_rank, check_heavy,
+    check_drawn_reports,
 ))
