@@ -1,5 +1,5 @@
 -- The check's walk over the terms: what holds between two turns, and what each way out shows.
-use mathlib.Core.Path.{_≡_, refl, sym, ap, _∙_}
+use mathlib.Core.Path.{_≡_, refl, sym, _∙_}
 use mathlib.Core.Logic.{⊎-elim}
 use mathlib.Core.Bool.{Bool, true, false, _||_}
 use mathlib.Core.List.{List, [], _∷_}
@@ -14,14 +14,14 @@ use Rattle.modes.specs.declared.Refusal.{Refusal}
 use Rattle.modes.specs.Answers.{refusal, none}
 use Rattle.record.specs.Terms.{before, weight}
 use Rattle.record.specs.Layout.{laidOut, modesOf, countOf, termsIn}
-use Rattle.modes.specs.Refusals.{need, orElse}
+use Rattle.modes.specs.Refusals.{orElse}
 use Rattle.record.specs.Refusals.{termRefusal, termsRefusal, refusalOf, refusedRecord, checkedOf, acceptedRecord}
 use Rattle.record.specs.Reading.{At}
 use Rattle.record.specs.Weights.{heavierBy}
-use Rattle.record.specs.Checks.{headedOf, weighedAs}
+use Rattle.record.specs.Checks.{weighedAs}
 use Rattle.record.specs.declared.Checked.{Checked}
 use Rattle.modes.proofs.Digits.{lt-or-ge}
-use Rattle.modes.proofs.Refusals.{or-first, or-second, needed, not-refused, unless-so, unless-not}
+use Rattle.modes.proofs.Refusals.{or-first, or-second, unless-so, unless-not}
 use Rattle.record.proofs.Weights.{Weighs, weighs-start, weighs-more}
 
 pub weight-front : (ts us : List Term) (t : Term) → ts ≡ t ∷ us → weight ts ≡ natAbs (t .coeff) + weight us
@@ -84,27 +84,9 @@ not-laid : (o : ℕ) (l : List ℕ) → laidOut l ≡ false → refusalOf o l �
 unfolding refusalOf
 not-laid o l e = rw e (or-first (refusal 1 o 0) _ (λ z. absurd (omega arith)))
 
--- the header
-pub header-bad : (o : ℕ) (l : List ℕ) → laidOut l ≡ false → refusedRecord (refusal 1 o 0) ≡ headedOf o l
-header-bad o l e = rw e (sym (unless-so (refusal 1 o 0) refusedRecord _ (λ z. absurd (omega arith))))
-
-pub header-good : (o : ℕ) (l : List ℕ) → laidOut l ≡ true
-    → _≡_ {A = Checked} (record { refusal = none; modes = modesOf l; terms = countOf l; weight = 0 }) (headedOf o l)
-header-good o l e = rw e (sym (unless-not none refusedRecord _ refl))
-
--- where it refuses, that is the answer; else it is laid out
-module _ (o : ℕ) (l : List ℕ) (h : Checked) (e : h ≡ headedOf o l) where
-  pub header-refuses : (h .refusal .number ≡ 0 → ⊥) → h ≡ checkedOf o l
-  header-refuses z = go (laidOut l) refl
-    where
-      go : (b : Bool) → laidOut l ≡ b → h ≡ checkedOf o l
-      go true q = absurd (z (ap (λ (x : Checked). x .refusal .number) (e ∙ sym (header-good o l q))))
-      go false q = e ∙ sym (header-bad o l q) ∙ refused-is o l (refusal 1 o 0) (not-laid o l q) (λ y. absurd (omega arith))
-
-  pub header-tells : h .refusal .number ≡ 0 → (laidOut l ≡ true) × (h .modes ≡ modesOf l) × (h .terms ≡ countOf l)
-  header-tells z =
-      let found = not-refused (need (laidOut l) (refusal 1 o 0)) refusedRecord _ (λ x. x .refusal) refl h e z in
-      (needed (laidOut l) (refusal 1 o 0) (λ y. absurd (omega arith)) (found .0), ap (λ (x : Checked). x .modes) (found .1), ap (λ (x : Checked). x .terms) (found .1))
+-- number 1
+pub header-bad : (o : ℕ) (l : List ℕ) → laidOut l ≡ false → refusedRecord (refusal 1 o 0) ≡ checkedOf o l
+header-bad o l e = refused-is o l (refusal 1 o 0) (not-laid o l e) (λ z. absurd (omega arith))
 
 -- m and n are the record's own
 module _ (o : ℕ) (l : List ℕ) (m n : ℕ) (yes : laidOut l ≡ true) (em : m ≡ modesOf l) (en : n ≡ countOf l) where

@@ -12,9 +12,9 @@ use Rattle.lent.specs.Outputs.{filledOutput, Gives}
 use Rattle.lent.proofs.Outputs.{gives-one}
 use Rattle.places.specs.declared.Places.{Places}
 use Rattle.record.specs.Terms.{before}
-use Rattle.record.specs.Layout.{encode, termsIn, recordLength, totalOf, columnPlaces}
+use Rattle.record.specs.Layout.{encode, termsIn, recordLength, totalOf, modesOf, countOf, laidOut, columnPlaces}
 use Rattle.record.specs.Refusals.{termRefusal, refusedRecord, checkedOf}
-use Rattle.record.specs.Checks.{headedOf, weighedAs}
+use Rattle.record.specs.Checks.{weighedAs}
 use Rattle.modes.specs.declared.Refusal.{Refusal}
 use Rattle.record.specs.Reading.{At}
 use Rattle.record.specs.Weights.{heavierBy}
@@ -29,8 +29,14 @@ one-total l r s p q = one (p .0) (q .0)
 pub one-check : (o : ℕ) (l : List ℕ) (r s : Checked) → r ≡ checkedOf o l → s ≡ checkedOf o l → r ≡ s
 one-check o l r s = one
 
-pub one-header : (o : ℕ) (l : List ℕ) (r s : Checked) → r ≡ headedOf o l → s ≡ headedOf o l → r ≡ s
-one-header o l r s = one
+pub one-modes : (l : List ℕ) (r s : ℕ) → r ≡ modesOf l → s ≡ modesOf l → r ≡ s
+one-modes l r s = one
+
+pub one-count : (l : List ℕ) (r s : ℕ) → r ≡ countOf l → s ≡ countOf l → r ≡ s
+one-count l r s = one
+
+pub one-layout : (l : List ℕ) (r s : Bool) → r ≡ laidOut l → s ≡ laidOut l → r ≡ s
+one-layout l r s = one
 
 pub one-refusal : (f : Refusal) (r s : Checked) → r ≡ refusedRecord f → s ≡ refusedRecord f → r ≡ s
 one-refusal f r s = one

@@ -20,7 +20,7 @@ ghost use Rattle.record.specs.Reading.{At, Holds};
 ghost use Rattle.lent.specs.Outputs.{Gives, filledOutput};
 ghost use Rattle.modes.specs.Counts.{count};
 ghost use Rattle.record.specs.Weights.{heavierBy};
-ghost use Rattle.record.specs.Checks.{headedOf, weighedAs};
+ghost use Rattle.record.specs.Checks.{weighedAs};
 ghost use Rattle.record.specs.Counting.{countIf, earlier};
 ghost use Rattle.record.specs.Blocks.{annBelow, blockOf, bytesIn};
 
@@ -71,6 +71,22 @@ pub fn length_of(n: usize) -> usize
     ensures { λ r. ⌜ r ≡ recordLength n ⌝ }
 {
     32 + 24 * n
+}
+
+// The modes that a header tells.
+pub fn modes_of(s: &[u8]) -> u64
+    requires { ⌜ 32 ≤ length (now s) ⌝ }
+    ensures { λ r. ⌜ r ≡ modesOf (now (s .entry)) ⌝ }
+{
+    lent::half(s, 4) as u64
+}
+
+// The number of terms that a header tells.
+pub fn count_of(s: &[u8]) -> usize
+    requires { ⌜ 32 ≤ length (now s) ⌝ }
+    ensures { λ r. ⌜ r ≡ countOf (now (s .entry)) ⌝ }
+{
+    lent::half(s, 8)
 }
 
 // The length that a header tells.
@@ -127,7 +143,7 @@ fn good_header(s: &[u8]) -> bool
 }
 
 // Number 1: a good header, and the length that it tells.
-fn laid_out(s: &[u8]) -> bool
+pub fn laid_out(s: &[u8]) -> bool
     ensures { λ r. ⌜ r ≡ laidOut (now (s .entry)) ⌝ }
 {
     if s.len() < HEADER {
@@ -291,9 +307,9 @@ fn check_terms(s: &[u8], operand: u64, m: u64, n: usize) -> Checked
     weighed(operand, m, n, w)
 }
 
-// Number 1, or the modes and the number of terms that the header tells. Whatever checks a record begins by this.
-pub fn read_header(s: &[u8], operand: u64) -> Checked
-    ensures { λ r. ⌜ r ≡ headedOf operand (now (s .entry)) ⌝ }
+// Are the bytes a record? The answer for any bytes, with the operand that the caller names.
+pub fn check(s: &[u8], operand: u64) -> Checked
+    ensures { λ r. ⌜ r ≡ checkedOf operand (now (s .entry)) ⌝ }
 {
     if !laid_out(s) {
         return Checked::refused(Refusal {
@@ -302,26 +318,8 @@ pub fn read_header(s: &[u8], operand: u64) -> Checked
             place: 0,
         });
     }
-    let modes = lent::half(s, 4) as u64;
-    let terms = lent::half(s, 8);
-    Checked {
-        refusal: Refusal::NONE,
-        modes,
-        terms,
-        weight: 0,
-    }
-}
-
-// Are the bytes a record? The answer for any bytes, with the operand that the caller names.
-pub fn check(s: &[u8], operand: u64) -> Checked
-    ensures { λ r. ⌜ r ≡ checkedOf operand (now (s .entry)) ⌝ }
-{
-    let h = read_header(s, operand);
-    if h.refusal.number != 0 {
-        return h;
-    }
-    let m = h.modes;
-    let n = h.terms;
+    let m = modes_of(s);
+    let n = count_of(s);
     check_terms(s, operand, m, n)
 }
 

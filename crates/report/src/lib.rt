@@ -41,7 +41,7 @@ pub struct Counted {
     pub own: Refusal,
 }
 
-// Are the numbers of the share at `at` within their limits? They are all looked at, without a branch, as most reports are.
+// Are the numbers of the share at `at` within their limits? No branch ends it early, since most of them are.
 fn is_within(report: &[u64], at: usize) -> bool
     requires { ⌜ at + 2 < length (now report) ⌝ }
     ensures { λ r. ⌜ r ≡ within (shareIn (now (report .entry)) at) ⌝ }

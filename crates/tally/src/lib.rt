@@ -1,6 +1,7 @@
 // The check of a record, and in the same walk how many of its terms have each rank, and their weight. A walk of its own after
 // the check would take longer than the check.
 use modes::ModeSpace;
+use modes::Refusal;
 use modes::Term;
 use record::Checked;
 ghost use mathlib.Core.Path.{_≡_};
@@ -82,11 +83,14 @@ pub fn tally_record(s: &[u8], terms: &mut [u64; 65], weights: &mut [u64; 65]) ->
     requires { ⌜ (now terms ≡ noneYet) × (now weights ≡ noneYet) ⌝ }
     ensures { λ r. ⌜ Tallies (now (s .entry)) r (now (terms .exit)) (now (weights .exit)) ⌝ }
 {
-    let h = record::read_header(s, 1);
-    if h.refusal.number != 0 {
-        return h;
+    if !record::laid_out(s) {
+        return Checked::refused(Refusal {
+            number: 1,
+            operand: 1,
+            place: 0,
+        });
     }
-    let m = h.modes;
-    let n = h.terms;
+    let m = record::modes_of(s);
+    let n = record::count_of(s);
     tally_terms(s, m, n, terms, weights)
 }

@@ -1,29 +1,52 @@
 -- `tally::tally_record` meets its contract.
-use Rattle.record.proofs.Checking.{header-refuses, header-tells}
+use native.Mathlib.Omega.{arith}
+use mathlib.Core.Path.{_≡_, sym, ap, _∙_}
+use borrow.Author.Tests.{not-true, not-false}
+use Rattle.record.specs.declared.Checked.{Checked}
+use Rattle.record.proofs.Header.{laid}
+use Rattle.record.proofs.Checking.{header-bad}
 use Rattle.tally.proofs.Tallying.{refused-found}
 use borrow.Author.Needs.{needs}
 use Rattle.tally.proofs.tally_record.Statement.{statement}
 use Rattle.tally.proofs.tally_record.Tie as tie
 
-read-header-requires : tie.Need-read-header-requires
-read-header-requires c κs = search needs
+laid-out-requires : tie.Need-laid-out-requires
+laid-out-requires c κs = search needs
+
+refused-requires : tie.Need-refused-requires
+refused-requires c κs = search needs
 
 returns : tie.Need-returns
 returns c =
-    let no = c .if1 .taken in
-    refused-found _ _ (header-refuses _ _ _ (c .before .before .read-header .ensures) no) no _ _
+    let found = c .refused .ensures ∙ header-bad _ _ (sym (c .before .before .laid-out .ensures) ∙ not-true _ (c .before .if1 .taken)) in
+    let told : c .refused .result .refusal .number ≡ 1 = ap (λ (x : Checked). x .refusal .number) (c .refused .ensures) in
+    refused-found _ _ found (λ z. absurd (omega (arith, told, z))) _ _
+
+modes-of-requires : tie.Need-modes-of-requires
+modes-of-requires c κs = omega (arith, laid _ (sym (c .before .laid-out .ensures) ∙ not-false _ (c .if1 .left)) .size)
+
+count-of-requires : tie.Need-count-of-requires
+count-of-requires c κs = omega (arith, laid _ (sym (c .before .before .laid-out .ensures) ∙ not-false _ (c .before .if1 .left)) .size)
 
 tally-terms-requires : tie.Need-tally-terms-requires
 tally-terms-requires c κs =
-    let at-else = c .before .before in
-    let at-header = at-else .before .before in
-    let told = header-tells _ _ _ (at-header .read-header .ensures) (at-else .if1 .left) in
-    let none = at-header .before .before .pre in
-    (told .0, told .1, told .2, none .0, none .1)
+    let at-count = c .before .before in
+    let at-if1 = at-count .before .before in
+    let at-laid-out = at-if1 .before in
+    let none = at-laid-out .before .before .pre in
+    (sym (at-laid-out .laid-out .ensures) ∙ not-false _ (at-if1 .if1 .left), at-count .before .modes-of .ensures, at-count .count-of .ensures, none .0, none .1)
 
 returns-2 : tie.Need-returns-2
 returns-2 c = search needs
 
 pub tally-record-spec : {M : Type 1} → statement M
 tally-record-spec =
-    tie.close (tie.spec read-header-requires returns tally-terms-requires returns-2)
+    tie.close
+    (tie.spec
+    laid-out-requires
+    refused-requires
+    returns
+    modes-of-requires
+    count-of-requires
+    tally-terms-requires
+    returns-2)
