@@ -6,7 +6,6 @@ use modes::Term;
 use record::Checked;
 ghost use mathlib.Core.Path.{_≡_};
 ghost use mathlib.Core.Bool.{true};
-ghost use Prim.Native.Nat.{_^_};
 ghost use Rattle.record.specs.Layout.{laidOut, modesOf, countOf};
 ghost use Rattle.tally.specs.Tallies.{noneYet, sumWith, sumTold, Tallies};
 
