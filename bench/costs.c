@@ -39,7 +39,6 @@ static size_t one_len, two_len;
 static uint64_t words[2][TERMS], answer[8], report[FERMION_REPORT];
 static uint8_t batch[BATCH][RECORD]; /* records that are looked at in turn, so that no branch is learnt by heart */
 static size_t batch_len[BATCH];
-static unsigned batch_at;
 static double floats[TERMS], value[2];
 static int64_t matrix[64];
 static uint64_t seed = 20261115;
@@ -209,15 +208,15 @@ static void run_is_hermitian(void) { lib->is_hermitian(one, one_len, answer); }
 static void run_max_n_body(void) { lib->max_n_body(one, one_len, answer); }
 static void run_batch_check(void)
 {
-    batch_at = (batch_at + 1) % BATCH;
-    lib->check(batch[batch_at], batch_len[batch_at], answer);
+    for (int i = 0; i < BATCH; i++)
+        lib->check(batch[i], batch_len[i], answer);
 }
 static void run_batch_report(void)
 {
     if (report[0] == FERMION_MAX_REPORTED) /* it counts no more: one call in so many begins with a fresh one */
         memset(report, 0, sizeof report);
-    batch_at = (batch_at + 1) % BATCH;
-    lib->report_add(batch[batch_at], batch_len[batch_at], report, answer);
+    for (int i = 0; i < BATCH; i++)
+        lib->report_add(batch[i], batch_len[i], report, answer);
 }
 static void run_block(void) { lib->block(one, one_len, ket, answer); }
 static void run_element(void) { lib->element(one, one_len, bra, ket, answer); }
@@ -294,10 +293,10 @@ static void count_batch(const char *on)
     int all = 1;
     for (int i = 0; i < n_libraries; i++)
         all = all && libraries[i].report_add != NULL;
-    line("check", on, run_batch_check, 1);
+    line("check", on, run_batch_check, BATCH);
     memset(report, 0, sizeof report);
     if (all)
-        line("report_add", on, run_batch_report, 1);
+        line("report_add", on, run_batch_report, BATCH);
 }
 
 static void count_two_body(unsigned modes, size_t n, const char *on)
