@@ -1,6 +1,5 @@
 -- The check's walk over the terms: what holds between two turns, and what each way out shows.
-use mathlib.Core.Path.{_≡_, refl, sym, _∙_}
-use mathlib.Core.Logic.{⊎-elim}
+use mathlib.Core.Path.{_≡_, refl, _∙_, sym}
 use mathlib.Core.Bool.{Bool, true, false, _||_}
 use mathlib.Core.List.{List, [], _∷_}
 use Prim.Native.Nat.{ℕ, suc, _+_, _^_, _≤_, _<_}
@@ -18,9 +17,7 @@ use Rattle.modes.specs.Refusals.{orElse}
 use Rattle.record.specs.Refusals.{termRefusal, termsRefusal, refusalOf, refusedRecord, checkedOf, acceptedRecord}
 use Rattle.record.specs.Reading.{At}
 use Rattle.record.specs.Weights.{heavierBy}
-use Rattle.record.specs.Checks.{weighedAs}
 use Rattle.record.specs.declared.Checked.{Checked}
-use Rattle.modes.proofs.Digits.{lt-or-ge}
 use Rattle.modes.proofs.Refusals.{or-first, or-second, unless-so, unless-not}
 use Rattle.record.proofs.Weights.{Weighs, weighs-start, weighs-more}
 
@@ -32,15 +29,16 @@ pub weight-none : (ts : List Term) → ts ≡ [] → weight ts ≡ 0
 unfolding weight
 weight-none ts e = rw e
 
--- before the i-th term, which stands after last unless it is the first: what the terms so far leave of the refusal
-pub record Going (o m : ℕ) (ts : List Term) (first : Bool) (last : Term) (i : ℕ) : Type 0 where
+-- before the i-th term: last is the one before it, unless it is the first, and w is the weight so far
+pub record Going (o m : ℕ) (ts : List Term) (first : Bool) (last : Term) (w i : ℕ) : Type 0 where
   pub rest : termsRefusal o m 0 (λ _. true) ts ≡ termsRefusal o m i (λ u. first || before last u) (drop i ts)
+  pub weighs : Weighs w (weight (drop i ts)) (weight ts)
 
 module _ (o m : ℕ) (ts : List Term) where
-  pub begin : (last : Term) → Going o m ts true last 0
-  begin last = record { rest = refl }
+  pub begin : (last : Term) → Going o m ts true last 0 0
+  begin last = record { rest = refl; weighs = weighs-start (weight ts) }
 
-  module _ (first : Bool) (last : Term) (i : ℕ) (g : Going o m ts first last i) where
+  module _ (first : Bool) (last : Term) (w i : ℕ) (g : Going o m ts first last w i) where
     module _ (t : Term) (at : At ts i t) (r : Refusal) (er : r ≡ termRefusal o m i (first || before last t) t) where
       turn : termsRefusal o m 0 (λ _. true) ts ≡ orElse r (termsRefusal o m (suc i) (before t) (drop (i + 1) ts))
       unfolding termsRefusal
@@ -49,44 +47,31 @@ module _ (o m : ℕ) (ts : List Term) where
       pub refuses : (r .number ≡ 0 → ⊥) → termsRefusal o m 0 (λ _. true) ts ≡ r
       refuses h = turn ∙ or-first r _ h
 
-      pub goes : r .number ≡ 0 → Going o m ts false t (i + 1)
-      goes h = record { rest = turn ∙ or-second r _ h ∙ rw add-one }
+      pub goes : r .number ≡ 0 → (k : ℕ) → k ≡ natAbs (t .coeff) → Going o m ts false t (heavierBy k w) (i + 1)
+      goes h k ek =
+          let split : weight (drop i ts) ≡ k + weight (drop (i + 1) ts) = weight-front _ _ t at ∙ rw ek in
+          record { rest = turn ∙ or-second r _ h ∙ rw add-one; weighs = weighs-more w k _ _ (rw split at (g .weighs)) }
 
     -- all terms looked at
-    pub none-refused : drop i ts ≡ [] → termsRefusal o m 0 (λ _. true) ts ≡ none
-    unfolding termsRefusal
-    none-refused done = g .rest ∙ rw done
+    module _ (done : drop i ts ≡ []) where
+      pub none-refused : termsRefusal o m 0 (λ _. true) ts ≡ none
+      unfolding termsRefusal
+      none-refused = g .rest ∙ rw done
 
--- before the i-th term: w is the weight so far, or tells that it is above the ceiling
-pub record Weighing (ts : List Term) (w i : ℕ) : Type 0 where
-  pub weighs : Weighs w (weight (drop i ts)) (weight ts)
+      pub total : w ≤ 2 ^ 60 → w ≡ weight ts
+      total h = omega (arith, g .weighs .exact h, weight-none _ done)
 
-pub weighing-starts : (ts : List Term) → Weighing ts 0 0
-weighing-starts ts = record { weighs = weighs-start (weight ts) }
-
-pub weighing-goes : (ts : List Term) (w i : ℕ) → Weighing ts w i → (t : Term) → At ts i t → (k : ℕ) → k ≡ natAbs (t .coeff) → Weighing ts (heavierBy k w) (i + 1)
-weighing-goes ts w i g t at k ek =
-    let split : weight (drop i ts) ≡ k + weight (drop (i + 1) ts) = weight-front _ _ t at ∙ rw ek in
-    record { weighs = weighs-more w k _ _ (rw split at (g .weighs)) }
+      pub too-heavy : 2 ^ 60 < w → 2 ^ 60 < weight ts
+      too-heavy h = g .weighs .over h
 
 -- ---- the answers
 
-pub too-heavy-is : (o m n w : ℕ) → 2 ^ 60 < w → refusedRecord (refusal 5 o 0) ≡ weighedAs o m n w
-too-heavy-is o m n w h = rw (lt-leb w (2 ^ 60) h) (sym (unless-so (refusal 5 o 0) refusedRecord _ (λ z. absurd (omega arith))))
-
-pub light-is : (o m n w : ℕ) → w ≤ 2 ^ 60 → _≡_ {A = Checked} (record { refusal = none; modes = m; terms = n; weight = w }) (weighedAs o m n w)
-light-is o m n w h = rw (le-leb w (2 ^ 60) h) (sym (unless-not none refusedRecord _ refl))
-
-refused-is : (o : ℕ) (l : List ℕ) (r : Refusal) → refusalOf o l ≡ r → (r .number ≡ 0 → ⊥) → refusedRecord r ≡ checkedOf o l
+pub refused-is : (o : ℕ) (l : List ℕ) (r : Refusal) → refusalOf o l ≡ r → (r .number ≡ 0 → ⊥) → refusedRecord r ≡ checkedOf o l
 refused-is o l r e h = sym (rw e (unless-so r refusedRecord (acceptedRecord l) h))
 
-not-laid : (o : ℕ) (l : List ℕ) → laidOut l ≡ false → refusalOf o l ≡ refusal 1 o 0
+pub not-laid : (o : ℕ) (l : List ℕ) → laidOut l ≡ false → refusalOf o l ≡ refusal 1 o 0
 unfolding refusalOf
 not-laid o l e = rw e (or-first (refusal 1 o 0) _ (λ z. absurd (omega arith)))
-
--- number 1
-pub header-bad : (o : ℕ) (l : List ℕ) → laidOut l ≡ false → refusedRecord (refusal 1 o 0) ≡ checkedOf o l
-header-bad o l e = refused-is o l (refusal 1 o 0) (not-laid o l e) (λ z. absurd (omega arith))
 
 -- m and n are the record's own
 module _ (o : ℕ) (l : List ℕ) (m n : ℕ) (yes : laidOut l ≡ true) (em : m ≡ modesOf l) (en : n ≡ countOf l) where
@@ -107,9 +92,3 @@ module _ (o : ℕ) (l : List ℕ) (m n : ℕ) (yes : laidOut l ≡ true) (em : m
         let k : weight (termsIn l n) ≤ 2 ^ 60 = omega arith in
         let light : refusalOf o l ≡ none = rw (yes, ← em, ← en, fine, le-leb _ _ k) (or-second none _ refl ∙ or-second none _ refl) in
         rw (light, ← em, ← en, e) (sym (unless-not none refusedRecord _ refl))
-
-    -- the weight of all terms decides
-    pub weighed-is : (w i : ℕ) → Weighing (termsIn l n) w i → drop i (termsIn l n) ≡ [] → weighedAs o m n w ≡ checkedOf o l
-    weighed-is w i g done =
-        ⊎-elim (λ h. sym (too-heavy-is o m n w h) ∙ heavy-refused (g .weighs .over h))
-        (λ h. sym (light-is o m n w h) ∙ accepted-is w (omega (arith, g .weighs .exact h, weight-none _ done)) h) (lt-or-ge (2 ^ 60) w)

@@ -13,9 +13,7 @@ use Rattle.lent.proofs.Outputs.{gives-one}
 use Rattle.places.specs.declared.Places.{Places}
 use Rattle.record.specs.Terms.{before}
 use Rattle.record.specs.Layout.{encode, termsIn, recordLength, totalOf, modesOf, countOf, laidOut, columnPlaces}
-use Rattle.record.specs.Refusals.{termRefusal, refusedRecord, checkedOf}
-use Rattle.record.specs.Checks.{weighedAs}
-use Rattle.modes.specs.declared.Refusal.{Refusal}
+use Rattle.record.specs.Refusals.{checkedOf}
 use Rattle.record.specs.Reading.{At}
 use Rattle.record.specs.Weights.{heavierBy}
 use Rattle.record.specs.Blocks.{blockOf, bytesIn}
@@ -37,15 +35,6 @@ one-count l r s = one
 
 pub one-layout : (l : List ℕ) (r s : Bool) → r ≡ laidOut l → s ≡ laidOut l → r ≡ s
 one-layout l r s = one
-
-pub one-refusal : (f : Refusal) (r s : Checked) → r ≡ refusedRecord f → s ≡ refusedRecord f → r ≡ s
-one-refusal f r s = one
-
-pub one-judgement : (o m i : ℕ) (up : Bool) (t : Term) (r s : Refusal) → r ≡ termRefusal o m i up t → s ≡ termRefusal o m i up t → r ≡ s
-one-judgement o m i up t r s = one
-
-pub one-weighing : (o m n w : ℕ) (r s : Checked) → r ≡ weighedAs o m n w → s ≡ weighedAs o m n w → r ≡ s
-one-weighing o m n w r s = one
 
 pub one-length : (n r s : ℕ) → r ≡ recordLength n → s ≡ recordLength n → r ≡ s
 one-length n r s = one

@@ -7,7 +7,6 @@ pub mod Coefficients
 pub mod Canonical
 pub mod Reading
 pub mod Weights
-pub mod Checks
 pub mod Counting
 pub mod Blocks
 pub mod Example

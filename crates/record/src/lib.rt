@@ -20,7 +20,6 @@ ghost use Rattle.record.specs.Reading.{At, Holds};
 ghost use Rattle.lent.specs.Outputs.{Gives, filledOutput};
 ghost use Rattle.modes.specs.Counts.{count};
 ghost use Rattle.record.specs.Weights.{heavierBy};
-ghost use Rattle.record.specs.Checks.{weighedAs};
 ghost use Rattle.record.specs.Counting.{countIf, earlier};
 ghost use Rattle.record.specs.Blocks.{annBelow, blockOf, bytesIn};
 
@@ -41,7 +40,7 @@ pub struct Checked {
 }
 
 impl Checked {
-    pub fn refused(refusal: Refusal) -> Checked
+    fn refused(refusal: Refusal) -> Checked
         ensures { λ r. ⌜ r ≡ refusedRecord refusal ⌝ }
     {
         Checked {
@@ -245,40 +244,6 @@ pub fn heavier(w: u64, k: u64) -> u64
     if w <= HEAVIEST { w + k } else { w }
 }
 
-// Numbers 2, 3 and 4 of the term t, which stands first or after `last`. Whatever checks terms judges them by this.
-pub fn judge(
-    space: ModeSpace,
-    operand: u64,
-    place: u64,
-    first: bool,
-    last: Term,
-    t: Term,
-) -> Refusal
-    ensures { λ r. ⌜ r ≡ termRefusal operand (space .count) place (first || before last t) t ⌝ }
-{
-    let up = follows(first, last, t);
-    term_refusal(space, operand, place, up, t)
-}
-
-// What a check of n terms on m modes found, of which none was refused: number 5, or that the record is accepted.
-pub fn weighed(operand: u64, m: u64, n: usize, w: u64) -> Checked
-    ensures { λ r. ⌜ r ≡ weighedAs operand m n w ⌝ }
-{
-    if HEAVIEST < w {
-        return Checked::refused(Refusal {
-            number: 5,
-            operand,
-            place: 0,
-        });
-    }
-    Checked {
-        refusal: Refusal::NONE,
-        modes: m,
-        terms: n,
-        weight: w,
-    }
-}
-
 // The check of n terms on m modes, once the header is right.
 fn check_terms(s: &[u8], operand: u64, m: u64, n: usize) -> Checked
     requires { ⌜ (laidOut (now s) ≡ true) × (m ≡ modesOf (now s)) × (n ≡ countOf (now s)) ⌝ }
@@ -295,7 +260,8 @@ fn check_terms(s: &[u8], operand: u64, m: u64, n: usize) -> Checked
     let mut i = 0;
     while i < n {
         let t = read_term(s, n, i);
-        let r = judge(space, operand, i as u64, first, last, t);
+        let up = follows(first, last, t);
+        let r = term_refusal(space, operand, i as u64, up, t);
         if r.number != 0 {
             return Checked::refused(r);
         }
@@ -304,7 +270,19 @@ fn check_terms(s: &[u8], operand: u64, m: u64, n: usize) -> Checked
         last = t;
         i += 1;
     }
-    weighed(operand, m, n, w)
+    if HEAVIEST < w {
+        return Checked::refused(Refusal {
+            number: 5,
+            operand,
+            place: 0,
+        });
+    }
+    Checked {
+        refusal: Refusal::NONE,
+        modes: m,
+        terms: n,
+        weight: w,
+    }
 }
 
 // Are the bytes a record? The answer for any bytes, with the operand that the caller names.
@@ -318,8 +296,8 @@ pub fn check(s: &[u8], operand: u64) -> Checked
             place: 0,
         });
     }
-    let m = modes_of(s);
-    let n = count_of(s);
+    let m = lent::half(s, 4) as u64;
+    let n = lent::half(s, 8);
     check_terms(s, operand, m, n)
 }
 

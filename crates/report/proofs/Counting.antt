@@ -20,6 +20,7 @@ use Rattle.record.proofs.Accepted.{Accepted, accepted, refused}
 use Rattle.record.proofs.Reading.{length-terms}
 use Rattle.report.specs.Reports.{reportIn, numbersOf, isOpen, withAccepted, withRefused}
 use Rattle.report.specs.Reports.{withRecord, reportAfter, countedOf, Counts}
+use Rattle.tally.specs.Ranks.{ofRank}
 use Rattle.tally.specs.Tallies.{Tallied, Tallies}
 use Rattle.tally.proofs.Ranks as ranks
 use Rattle.report.specs.Steps.{Light, Countable, AcceptedIn}
@@ -93,6 +94,7 @@ module _ (l b : List ℕ) (c : Checked) (terms weights : List ℕ) (f : Tallies 
       record {
         few = λ r h. omega (arith, tallied .number r h, ranks.rank-part ranks.lengths r (termsOf b), is .canonical .few);
         light = λ r h. omega (arith, tallied .sum r h, ranks.rank-part ranks.weights r (termsOf b), is .canonical .light);
+        empty = λ r h e. tallied .sum r h ∙ ranks.no-terms ranks.weights (ofRank r (termsOf b)) (omega (arith, e, tallied .number r h));
       }
 
   module _ (size : length l ≡ 201) (e : isOpen (reportIn l) ≡ true) where
@@ -103,6 +105,7 @@ module _ (l b : List ℕ) (c : Checked) (terms weights : List ℕ) (f : Tallies 
           opened = e;
           few = omega (arith, terms-are, is .canonical .few);
           light = omega (arith, weight-is, is .canonical .light);
+          empty = λ h. weight-is ∙ ranks.no-terms ranks.weights (termsOf b) (omega (arith, h, terms-are));
           figures = light;
         }
 

@@ -1,8 +1,8 @@
 -- A share that grows, and the other numbers of the report, which stay.
-use mathlib.Core.Path.{_≡_, _∙_}
+use mathlib.Core.Path.{_≡_, refl, _∙_}
 use mathlib.Core.List.{List}
 use Prim.Native.Nat.{ℕ, _+_, _/_, _%_, _^_, _≤_, _<_}
-use native.Mathlib.Nat.{div-le-self}
+use native.Mathlib.Nat.{add-zero, div-le-self, div-eq-of-lt, mod-eq-of-lt}
 use native.Mathlib.Omega.{arith}
 use lib.ListN.{length, getD, set, length-set}
 use lib.Seq.{getD-set-same, getD-set-other}
@@ -76,6 +76,16 @@ grown l p n w inside =
       share = rw (first l p x y z inside, second l p x y z inside, third l p x y z inside, same-high l p n);
       below = λ i h. kept l p x y z i (λ e. absurd (omega arith)) (λ e. absurd (omega arith)) (λ e. absurd (omega arith));
       above = λ i h. kept l p x y z i (λ e. absurd (omega arith)) (λ e. absurd (omega arith)) (λ e. absurd (omega arith));
+    }
+
+-- no terms and no weight more leave a share as it was
+pub not-grown : (l : List ℕ) (p n w : ℕ) → Limited (shareIn l p) → n ≡ 0 → w ≡ 0 → Grown p n w l l
+not-grown l p n w k en ew =
+    record {
+      size = refl;
+      share = rw (en, ew, add-zero (getD l p 0), add-zero (getD l (p + 2) 0), div-eq-of-lt (k .low), mod-eq-of-lt (k .low), add-zero (getD l (p + 1) 0));
+      below = λ i h. refl;
+      above = λ i h. refl;
     }
 
 -- a share that lies wholly below or above the one that grew stays

@@ -14,10 +14,11 @@ pub record Grown (p n w : ℕ) (l k : List ℕ) : Type 0 where
   pub below : (i : ℕ) → i < p → getD k i 0 ≡ getD l i 0
   pub above : (i : ℕ) → p + 2 < i → getD k i 0 ≡ getD l i 0
 
--- figures of each rank that a share within its limits has room for
+-- figures of each rank that a share within its limits has room for; without terms there is no weight
 pub record Light (terms weights : List ℕ) : Type 0 where
   pub few : (r : ℕ) → r < 65 → getD terms r 0 ≤ 2 ^ 21
   pub light : (r : ℕ) → r < 65 → getD weights r 0 ≤ 2 ^ 60
+  pub empty : (r : ℕ) → r < 65 → getD terms r 0 ≡ 0 → getD weights r 0 ≡ 0
 
 -- the shares of all ranks have room for them
 pub record Mergeable (l terms weights : List ℕ) : Type 0 where
@@ -37,6 +38,7 @@ pub record Countable (l : List ℕ) (c : Checked) (terms weights : List ℕ) : T
   pub opened : isOpen (reportIn l) ≡ true
   pub few : c .terms ≤ 2 ^ 21
   pub light : c .weight ≤ 2 ^ 60
+  pub empty : c .terms ≡ 0 → c .weight ≡ 0
   pub figures : Light terms weights
 
 -- it is counted

@@ -82,11 +82,14 @@ fn is_open(report: &[u64]) -> bool
     ranks_within(report)
 }
 
-// n terms more, of the weight w, in the share at `at`.
+// n terms more, of the weight w, in the share at `at`. Of most ranks a record has none, and then nothing is stored.
 fn grow_share(report: &mut [u64], at: usize, n: u64, w: u64)
-    requires { ⌜ (at + 2 < length (now report)) × (within (shareIn (now report) at) ≡ true) × (n ≤ 2 ^ 21) × (w ≤ 2 ^ 60) ⌝ }
+    requires { ⌜ (at + 2 < length (now report)) × (within (shareIn (now report) at) ≡ true) × (n ≤ 2 ^ 21) × (w ≤ 2 ^ 60) × (n ≡ 0 → w ≡ 0) ⌝ }
     ensures { λ _. ⌜ Grown at n w (now (report .entry)) (now (report .exit)) ⌝ }
 {
+    if n == 0 {
+        return;
+    }
     let low = report[at + 2] + w;
     report[at] += n;
     report[at + 1] += low / record::HEAVIEST;

@@ -1,4 +1,4 @@
-pub mod Sums
+pub mod Seeing
 pub mod Ranks
 pub mod Tallying
 pub mod Unique

@@ -3,7 +3,7 @@ use mathlib.Core.Path.{_≡_, refl, sym, ap, _∙_}
 use mathlib.Core.Bool.{Bool, true, false, cond}
 use mathlib.Core.List.{List, [], _∷_}
 use Prim.Native.Nat.{ℕ, _+_, _≤_, _<_}
-use native.Mathlib.Nat.{le-refl, zero-add}
+use native.Mathlib.Nat.{le-refl}
 use native.Mathlib.Omega.{arith}
 use lib.Dec.{eqb}
 use lib.IntN.{natAbs}
@@ -43,6 +43,10 @@ unfolding weight
 weights = record { none = refl; more = λ t ts. refl }
 
 module _ {f : Term → ℕ} {g : List Term → ℕ} (sums : Additive f g) where
+  pub no-terms : (ts : List Term) → length ts ≡ 0 → g ts ≡ 0
+  no-terms [] e = sums .none
+  no-terms (t ∷ ts) e = absurd (omega (arith, e))
+
   -- that of one rank is part of that of all
   pub rank-part : (r : ℕ) (ts : List Term) → g (ofRank r ts) ≤ g ts
   unfolding chosen
@@ -64,34 +68,30 @@ with-stored c i x r h P here there = go (eqb i r) refl
     go true e = let q : i ≡ r = eqb-true i r e in rw (← q, getD-set-same c i x 0 h) (here q)
     go false e = let q : i ≡ r → ⊥ = eqb-false i r e in rw (getD-set-other c i r x 0 (λ z. q (sym z))) (there q)
 
--- what was counted of each rank before the i-th term, and what is left, make the whole
-abbrev pub Column : (List Term → ℕ) → List Term → ℕ → List ℕ → Type 0
-Column g ts i c = (r : ℕ) → r < 65 → getD c r 0 + g (ofRank r (drop i ts)) ≡ g (ofRank r ts)
+-- what stands in a column for each rank, what is left from the i-th term on, and the whole, as P has them
+abbrev pub Column : (ℕ → ℕ → ℕ → Type 0) → (List Term → ℕ) → List Term → ℕ → List ℕ → Type 0
+Column P g ts i c = (r : ℕ) → r < 65 → P (getD c r 0) (g (ofRank r (drop i ts))) (g (ofRank r ts))
 
-module _ {f : Term → ℕ} {g : List Term → ℕ} (sums : Additive f g) (ts : List Term) where
-  pub column-starts : Column g ts 0 noneYet
-  column-starts r h = rw (getD-replicate 65 r (the-zero) 0 h) (zero-add (g (ofRank r ts)))
+module _ (P : ℕ → ℕ → ℕ → Type 0) {f : Term → ℕ} {g : List Term → ℕ} (sums : Additive f g) (ts : List Term) where
+  pub column-starts : ((x : ℕ) → P 0 x x) → Column P g ts 0 noneYet
+  column-starts start r h = rw (getD-replicate 65 r (the-zero) 0 h) (start (g (ofRank r ts)))
     where
       the-zero : ℕ
       the-zero = 0
 
-  module _ (i : ℕ) (c : List ℕ) (so : Column g ts i c) where
-    pub column-ends : drop i ts ≡ [] → (r : ℕ) → r < 65 → getD c r 0 ≡ g (ofRank r ts)
-    column-ends e r h = omega (arith, so r h, ap g (rank-none r (drop i ts) e), sums .none)
+  module _ (i : ℕ) (c : List ℕ) (so : Column P g ts i c) where
+    pub column-ends : drop i ts ≡ [] → (r : ℕ) → r < 65 → P (getD c r 0) 0 (g (ofRank r ts))
+    column-ends e r h = rw (ap g (rank-none r (drop i ts) e) ∙ sums .none) at (so r h)
 
-    module _ (t : Term) (at : At ts i t) where
-      -- a term of rank q, and one of another
-      own : (q : ℕ) → rankOf t ≡ q → g (ofRank q (drop i ts)) ≡ f t + g (ofRank q (drop (i + 1) ts))
-      own q e = ap g (rank-here q _ _ t at e) ∙ sums .more t _
+    -- a term of the rank r
+    module _ (t : Term) (at : At ts i t) (r : ℕ) (is : r ≡ rankOf t) (low : r < 65) where
+      own : g (ofRank r (drop i ts)) ≡ f t + g (ofRank r (drop (i + 1) ts))
+      own = ap g (rank-here r _ _ t at (sym is)) ∙ sums .more t _
 
-      another : (q : ℕ) → (rankOf t ≡ q → ⊥) → g (ofRank q (drop i ts)) ≡ g (ofRank q (drop (i + 1) ts))
-      another q e = ap g (rank-elsewhere q _ _ t at e)
+      pub column-here : P (getD c r 0) (f t + g (ofRank r (drop (i + 1) ts))) (g (ofRank r ts))
+      column-here = rw own at (so r low)
 
-      module _ (r : ℕ) (is : r ≡ rankOf t) (low : r < 65) where
-        pub column-fits : getD c r 0 + f t ≤ g ts
-        column-fits = omega (arith, so r low, own r (sym is), rank-part sums r ts)
-
-        pub column-goes : length c ≡ 65 → (x : ℕ) → x ≡ getD c r 0 + f t → Column g ts (i + 1) (set c r x)
-        column-goes size x ex q h =
-            with-stored c r x q (rw size low) (λ y. y + g (ofRank q (drop (i + 1) ts)) ≡ g (ofRank q ts))
-            (λ e. omega (arith, ex, ap (λ (j : ℕ). getD c j 0) e, so q h, own q (sym is ∙ e))) (λ e. omega (arith, so q h, another q (λ z. e (is ∙ z))))
+      pub column-goes : length c ≡ 65 → (x : ℕ) → ((left whole : ℕ) → P (getD c r 0) (f t + left) whole → P x left whole) → Column P g ts (i + 1) (set c r x)
+      column-goes size x step q h =
+          with-stored c r x q (rw size low) (λ y. P y (g (ofRank q (drop (i + 1) ts))) (g (ofRank q ts)))
+          (λ e. rw (← e) (step _ _ column-here)) (λ e. rw (ap g (rank-elsewhere q _ _ t at (λ z. e (is ∙ z)))) at (so q h))

@@ -1,53 +1,68 @@
--- The terms and the weights of the ranks, counted while the terms are checked.
-use mathlib.Core.Path.{_≡_, refl, ap, _∙_}
-use mathlib.Core.Logic.{⊎-elim}
+-- The terms and the weights of the ranks, counted while the terms are looked at.
+use mathlib.Core.Path.{_≡_, refl, sym, ap, _∙_}
+use mathlib.Core.Bool.{false}
 use mathlib.Core.List.{List, []}
-use Prim.Native.Nat.{ℕ, zero, _+_, _%_, _^_, _≤_, _<_, zero-le}
+use Prim.Native.Nat.{ℕ, _+_, _*_, _/_, _%_, _^_, _≤_, _<_}
+use native.Mathlib.Nat.{div-add-mod'}
 use native.Mathlib.Omega.{arith}
 use lib.IntN.{natAbs}
-use lib.ListN.{length, drop, getD, set, length-set, getD-replicate}
+use lib.ListN.{length, drop, getD, set, length-set}
 use Rattle.modes.specs.declared.Term.{Term}
-use Rattle.modes.proofs.Digits.{lt-or-ge}
+use Rattle.modes.specs.Answers.{refusal}
 use Rattle.record.specs.Terms.{weight}
 use Rattle.record.specs.Reading.{At}
-use Rattle.record.specs.Layout.{termsIn, countOf}
+use Rattle.record.specs.Layout.{laidOut, termsIn, countOf}
 use Rattle.record.specs.Refusals.{checkedOf}
 use Rattle.record.specs.declared.Checked.{Checked}
 use Rattle.record.proofs.Accepted.{accepted}
-use Rattle.record.proofs.Checking.{weight-front, Weighing}
+use Rattle.record.proofs.Checking.{refused-is, not-laid}
 use Rattle.figures.specs.Figures.{rankOf}
-use Rattle.tally.specs.Tallies.{noneYet, sumWith, sumTold, Tallied, Tallies}
-use Rattle.tally.specs.declared.Sum.{Sum}
-use Rattle.tally.proofs.Sums.{Sums, sums-start, sums-more, sums-told, seen-before, no-wrap}
-use Rattle.tally.proofs.Ranks.{lengths, weights, with-stored, Column, column-starts, column-ends, column-fits, column-goes}
+use Rattle.tally.specs.Tallies.{noneYet, Tallied, Tallies}
+use Rattle.tally.proofs.Ranks.{lengths, weights, rank-part, Column, column-starts, column-ends, column-here, column-goes}
 
--- both columns before the i-th term, that of the weights as long as the sum of all did not wrap
-pub record Tallying (ts : List Term) (s : Sum) (i : ℕ) (terms sizes : List ℕ) : Type 0 where
+-- what was counted and what is left make the whole
+abbrev Adds : ℕ → ℕ → ℕ → Type 0
+Adds x left whole = x + left ≡ whole
+
+-- a sum in 64 bits, which wrapped so many times
+pub record Wraps (x left whole : ℕ) : Type 0 where
+  pub times : ℕ
+  pub is : x + times * 2 ^ 64 + left ≡ whole
+
+wraps-more : (x k left whole : ℕ) → Wraps x (k + left) whole → Wraps ((x + k) % 2 ^ 64) left whole
+wraps-more x k left whole g =
+    record {
+      times = g .times + (x + k) / 2 ^ 64;
+      is = omega (arith, g .is, div-add-mod' (x + k) (2 ^ 64));
+    }
+
+-- both columns before the i-th term
+pub record Tallying (ts : List Term) (i : ℕ) (terms sizes : List ℕ) : Type 0 where
   pub terms-size : length terms ≡ 65
   pub sizes-size : length sizes ≡ 65
-  pub number : Column length ts i terms
-  pub sums : Sums s (weight (drop i ts)) (weight ts)
-  pub sum : s .seen < 2 ^ 61 → Column weight ts i sizes
-  pub small : s .seen < 2 ^ 61 → (r : ℕ) → r < 65 → getD sizes r 0 ≤ s .now
+  pub number : Column Adds length ts i terms
+  pub sum : Column Wraps weight ts i sizes
 
 module _ (ts : List Term) where
-  pub tally-starts : Tallying ts (record { now = 0; seen = 0 }) 0 noneYet noneYet
+  pub tally-starts : Tallying ts 0 noneYet noneYet
   tally-starts =
       record {
         terms-size = refl;
         sizes-size = refl;
-        number = column-starts lengths ts;
-        sums = sums-start (weight ts);
-        sum = λ h. column-starts weights ts;
-        small = λ h r b. rw (getD-replicate 65 r zero 0 b) zero-le;
+        number = column-starts Adds lengths ts (λ x. omega arith);
+        sum = column-starts Wraps weights ts (λ x. record { times = 0; is = omega arith });
       }
 
-  module _ (s : Sum) (i : ℕ) (terms sizes : List ℕ) (g : Tallying ts s i terms sizes) where
-    pub tally-weighs : (w : ℕ) → w ≡ sumTold s → Weighing ts w i
-    tally-weighs w e = rw e (record { weighs = sums-told s _ _ (g .sums) })
-
-    pub tally-ends : s .seen < 2 ^ 61 → drop i ts ≡ [] → Tallied ts terms sizes
-    tally-ends h e = record { number = column-ends lengths ts i terms (g .number) e; sum = column-ends weights ts i sizes (g .sum h) e }
+  module _ (i : ℕ) (terms sizes : List ℕ) (g : Tallying ts i terms sizes) where
+    -- no sum of a rank wrapped where that of all is light
+    pub tally-ends : weight ts ≤ 2 ^ 60 → drop i ts ≡ [] → Tallied ts terms sizes
+    tally-ends light e =
+        record {
+          number = λ r b. omega (arith, column-ends Adds lengths ts i terms (g .number) e r b);
+          sum = λ r b.
+              let found = column-ends Wraps weights ts i sizes (g .sum) e r b in
+              omega (arith, found .is, rank-part weights r ts);
+        }
 
     -- one term further, of the rank r and the magnitude k
     module _ (t : Term) (at : At ts i t) (r : ℕ) (rank : (r ≡ rankOf t) × (r ≤ 64)) where
@@ -55,54 +70,36 @@ module _ (ts : List Term) where
       low = omega (arith, rank .1)
 
       pub number-fits : (n : ℕ) → length ts ≡ n → n < 2 ^ 64 → getD terms r 0 + 1 < 2 ^ 64
-      number-fits n e b = omega (arith, column-fits lengths ts i terms (g .number) t at r (rank .0) low)
+      number-fits n e b =
+          let here = column-here Adds lengths ts i terms (g .number) t at r (rank .0) low in
+          omega (arith, here, rank-part lengths r ts)
 
-      module _ (k : ℕ) (is : (k ≡ natAbs (t .coeff)) × (k ≤ 2 ^ 63)) where
-        -- the sum of all does not wrap, and that of the rank, which is part of it, does not either
-        module _ (h : sumWith k s .seen < 2 ^ 61) where
-          below : s .seen < 2 ^ 61
-          below = omega (arith, seen-before s k (is .1) (g .sums .held))
-
-          step : sumWith k s .now ≡ s .now + k
-          step = no-wrap s k (is .1) (g .sums .held) below (s .now) (omega arith)
-
-          stored : (getD sizes r 0 + k) % 2 ^ 64 ≡ getD sizes r 0 + k
-          stored = no-wrap s k (is .1) (g .sums .held) below (getD sizes r 0) (g .small below r low)
-
-        inside : r < length sizes
-        inside = rw (g .sizes-size) low
-
-        pub tally-goes : (x y : ℕ) → x ≡ getD terms r 0 + 1 → y ≡ (getD sizes r 0 + k) % 2 ^ 64 → (u : Sum) → u ≡ sumWith k s
-            → Tallying ts u (i + 1) (set terms r x) (set sizes r y)
-        tally-goes x y ex ey u eu =
-            let split : weight (drop i ts) ≡ k + weight (drop (i + 1) ts) = weight-front _ _ t at ∙ rw (is .0) in
-            rw eu (record {
+      module _ (k : ℕ) (is : k ≡ natAbs (t .coeff)) where
+        pub tally-goes : (x y : ℕ) → x ≡ getD terms r 0 + 1 → y ≡ (getD sizes r 0 + k) % 2 ^ 64 → Tallying ts (i + 1) (set terms r x) (set sizes r y)
+        tally-goes x y ex ey =
+            record {
               terms-size = length-set terms r _ ∙ g .terms-size;
               sizes-size = length-set sizes r _ ∙ g .sizes-size;
-              number = column-goes lengths ts i terms (g .number) t at r (rank .0) low (g .terms-size) x ex;
-              sums = sums-more s k (is .1) (g .sums .held) _ _ (rw split at (g .sums));
-              sum = λ h.
-                  column-goes weights ts i sizes (g .sum (below h)) t at r (rank .0) low (g .sizes-size) y
-                  (ey ∙ stored h ∙ ap (λ (z : ℕ). getD sizes r 0 + z) (is .0));
-              small = λ h q b.
-                  with-stored sizes r y q inside (λ z. z ≤ sumWith k s .now) (λ e. omega (arith, ey, stored h, step h, g .small (below h) r low))
-                  (λ e. omega (arith, step h, g .small (below h) q b));
-            })
+              number = column-goes Adds lengths ts i terms (g .number) t at r (rank .0) low (g .terms-size) x (λ left whole so. omega (arith, ex));
+              sum =
+                  column-goes Wraps weights ts i sizes (g .sum) t at r (rank .0) low (g .sizes-size) y
+                  (λ left whole so. rw ey (wraps-more (getD sizes r 0) k left whole (rw (← is) at so)));
+            }
 
--- ---- what is found of the bytes l
+-- what is found of the bytes l once all terms were looked at, whoever checked them
+pub all-found : (l : List ℕ) (c : Checked) → c ≡ checkedOf 1 l → (n : ℕ) → n ≡ countOf l → (i : ℕ) (terms sizes : List ℕ)
+    → Tallying (termsIn l n) i terms sizes → drop i (termsIn l n) ≡ [] → Tallies l c terms sizes
+all-found l c e n count i terms sizes g done =
+    record {
+      checked = e;
+      tallied = λ z.
+          let light : weight (termsIn l n) ≤ 2 ^ 60 = rw count (accepted 1 l c e z .canonical .light) in
+          rw (← count) (tally-ends (termsIn l n) i terms sizes g light done);
+    }
 
-module _ (l : List ℕ) (c : Checked) (e : c ≡ checkedOf 1 l) where
-  pub refused-found : (c .refusal .number ≡ 0 → ⊥) → (terms sizes : List ℕ) → Tallies l c terms sizes
-  refused-found h terms sizes = record { checked = e; tallied = λ z. absurd (h z) }
-
-  -- all terms were looked at
-  pub all-found : (n : ℕ) → n ≡ countOf l → (s : Sum) (i : ℕ) (terms sizes : List ℕ) → Tallying (termsIn l n) s i terms sizes → drop i (termsIn l n) ≡ []
-      → Tallies l c terms sizes
-  all-found n count s i terms sizes g done =
-      record {
-        checked = e;
-        tallied = λ z.
-            let light : weight (termsIn l n) ≤ 2 ^ 60 = rw count (accepted 1 l c e z .canonical .light) in
-            rw (← count) (⊎-elim (λ h. tally-ends (termsIn l n) s i terms sizes g h done)
-            (λ h. absurd (omega (arith, g .sums .over h))) (lt-or-ge (s .seen) (2 ^ 61)));
-      }
+-- or none were, since the header is bad: nothing is told of the columns of a refused record
+pub header-found : (l : List ℕ) (c : Checked) → c ≡ checkedOf 1 l → laidOut l ≡ false → (terms sizes : List ℕ) → Tallies l c terms sizes
+header-found l c e bad terms sizes =
+    let refused = refused-is 1 l (refusal 1 1 0) (not-laid 1 l bad) (λ z. absurd (omega arith)) in
+    let told : c .refusal .number ≡ 1 = ap (λ (x : Checked). x .refusal .number) (e ∙ sym refused) in
+    record { checked = e; tallied = λ z. absurd (omega (arith, told, z)) }

@@ -1,10 +1,10 @@
--- The tally of a record's terms, and a sum that knows whether it wrapped. For inner functions only.
+-- The tally of a record's terms, and what is seen of them on the way. For inner functions only.
 use Prim.Native.Nat.{ℕ, _+_, _%_, _^_, _<_}
 use mathlib.Core.Path.{_≡_}
-use mathlib.Core.Bool.{cond}
+use mathlib.Core.Bool.{Bool, _&&_}
 use mathlib.Core.List.{List}
 use lib.Bits.{bitOr}
-use lib.Dec.{ltb}
+use lib.Dec.{ltb, leb}
 use lib.ListN.{length, getD, replicate}
 use Rattle.modes.specs.declared.Term.{Term}
 use Rattle.record.specs.Terms.{weight}
@@ -12,7 +12,7 @@ use Rattle.record.specs.Layout.{termsOf}
 use Rattle.record.specs.Refusals.{checkedOf}
 use Rattle.record.specs.declared.Checked.{Checked}
 use Rattle.tally.specs.Ranks.{ofRank}
-use Rattle.tally.specs.declared.Sum.{Sum}
+use Rattle.tally.specs.declared.Seen.{Seen}
 
 -- a column before the first term
 abbrev pub noneYet : List ℕ
@@ -28,10 +28,14 @@ pub record Tallies (l : List ℕ) (c : Checked) (terms weights : List ℕ) : Typ
   pub checked : c ≡ checkedOf 1 l
   pub tallied : c .refusal .number ≡ 0 → Tallied (termsOf l) terms weights
 
--- a sum with k more, in 64 bits, and its bits
-abbrev pub sumWith : ℕ → Sum → Sum
-sumWith k s = let now = (s .now + k) % 2 ^ 64 in record { now = now; seen = bitOr (s .seen) now }
+-- a term more, of the magnitude k, of which `kept` is kept: all modes, the sum in 64 bits, and the bits of the sum and of what was
+-- kept less one
+abbrev pub seenWith : Term → ℕ → ℕ → Seen → Seen
+seenWith t k kept s =
+    let weight = (s .weight + k) % 2 ^ 64 in
+    let less = (kept + 18446744073709551615) % 2 ^ 64 in
+    record { modes = bitOr (s .modes) (bitOr (t .cre) (t .ann)); weight = weight; bits = bitOr (s .bits) (bitOr weight less) }
 
--- what it tells: itself, or its bits where these reach 2^61
-abbrev pub sumTold : Sum → ℕ
-sumTold s = cond (ltb (s .seen) (2 ^ 61)) (s .now) (s .seen)
+-- no mode outside, no zero and no wrapped sum, and the sum is no larger than a record's may be
+abbrev pub isPlain : ℕ → Seen → Bool
+isPlain m s = ltb (s .modes) (2 ^ m) && (ltb (s .bits) (2 ^ 61) && leb (s .weight) (2 ^ 60))

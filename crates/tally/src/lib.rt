@@ -1,41 +1,64 @@
-// The check of a record, and in the same walk how many of its terms have each rank, and their weight. A walk of its own after
-// the check would take longer than the check.
+// The check of a record, and in the same walk how many of its terms have each rank, and their weight. No branch of the walk
+// depends on a term: which annihilation words of a two-body record repeat cannot be guessed, and wrong guesses cost more than
+// the count.
 use modes::ModeSpace;
 use modes::Refusal;
 use modes::Term;
 use record::Checked;
 ghost use mathlib.Core.Path.{_≡_};
-ghost use mathlib.Core.Bool.{true};
+ghost use mathlib.Core.Bool.{true, cond, _||_};
+ghost use Rattle.record.specs.Terms.{before};
 ghost use Rattle.record.specs.Layout.{laidOut, modesOf, countOf};
-ghost use Rattle.tally.specs.Tallies.{noneYet, sumWith, sumTold, Tallies};
+ghost use Rattle.tally.specs.Tallies.{noneYet, seenWith, isPlain, Tallies};
 
-// A sum in 64 bits, and all bits that it had on the way. As long as these are below 2^61, no step of at most 2^63 wrapped.
-struct Sum {
-    now: u64,
-    seen: u64,
+// 2^61. A sum in 64 bits that was below it all the way did not wrap, for no step is above 2^63.
+const TOO_HIGH: u64 = 2_305_843_009_213_693_952;
+
+// What was seen of terms: all their modes, the sum of their magnitudes in 64 bits, and all bits that the sum had on the way or
+// that what was kept of a magnitude, less one, had. Zero less one has every bit, so that one test finds a wrapped sum, a zero
+// and a term that may not stand where it stands.
+struct Seen {
+    modes: u64,
+    weight: u64,
+    bits: u64,
 }
 
-impl Sum {
-    fn with(self, k: u64) -> Sum
-        ensures { λ r. ⌜ r ≡ sumWith k self ⌝ }
+impl Seen {
+    // a term more, of the magnitude k; u64::MAX takes one away
+    fn with(self, t: Term, k: u64, kept: u64) -> Seen
+        ensures { λ r. ⌜ r ≡ seenWith t k kept self ⌝ }
     {
-        let now = std::num::wrapping_add_u64(self.now, k);
-        Sum {
-            now,
-            seen: self.seen | now,
+        let weight = std::num::wrapping_add_u64(self.weight, k);
+        let less = std::num::wrapping_add_u64(kept, u64::MAX);
+        Seen {
+            modes: self.modes | (t.cre | t.ann),
+            weight,
+            bits: self.bits | (weight | less),
         }
     }
 
-    // the sum itself, or a number that is too large as well
-    fn told(self) -> u64
-        ensures { λ r. ⌜ r ≡ sumTold self ⌝ }
+    // Is the record accepted? After a no the check is asked, which knows what refuses it.
+    fn is_plain(self, space: ModeSpace) -> bool
+        ensures { λ r. ⌜ r ≡ isPlain (space .count) self ⌝ }
     {
-        if self.seen < 2_305_843_009_213_693_952 {
-            self.now
-        } else {
-            self.seen
-        }
+        let inside = space.contains(self.modes);
+        let exact = self.bits < TOO_HIGH;
+        inside & (exact & (self.weight <= record::HEAVIEST))
     }
+}
+
+// May t stand after `last`? As the check of a record asks it, but without a branch.
+fn rises(first: bool, last: Term, t: Term) -> bool
+    ensures { λ r. ⌜ r ≡ (first || before last t) ⌝ }
+{
+    first | ((last.ann < t.ann) | ((last.ann == t.ann) & (last.cre < t.cre)))
+}
+
+// What is kept of a magnitude: nothing where the term may not stand there.
+fn kept(rises: bool, k: u64) -> u64
+    ensures { λ r. ⌜ r ≡ cond rises k 0 ⌝ }
+{
+    if rises { k } else { 0 }
 }
 
 // The check of n terms on m modes, once the header is right, and their tally.
@@ -49,32 +72,39 @@ fn tally_terms(
     requires { ⌜ (laidOut (now s) ≡ true) × (m ≡ modesOf (now s)) × (n ≡ countOf (now s)) × (now terms ≡ noneYet) × (now weights ≡ noneYet) ⌝ }
     ensures { λ r. ⌜ Tallies (now (s .entry)) r (now (terms .exit)) (now (weights .exit)) ⌝ }
 {
-    let space = ModeSpace { count: m };
+    let mut seen = Seen {
+        modes: 0,
+        weight: 0,
+        bits: 0,
+    };
     let mut first = true;
     let mut last = Term {
         cre: 0,
         ann: 0,
         coeff: 0,
     };
-    let mut sum = Sum { now: 0, seen: 0 };
     let mut i = 0;
     while i < n {
         let t = record::read_term(s, n, i);
-        let r = record::judge(space, 1, i as u64, first, last, t);
-        if r.number != 0 {
-            return Checked::refused(r);
-        }
         let k = record::size(t);
         let at = figures::rank(t) as usize;
         terms[at] += 1;
         weights[at] = std::num::wrapping_add_u64(weights[at], k);
-        sum = sum.with(k);
+        let up = rises(first, last, t);
+        seen = seen.with(t, k, kept(up, k));
         first = false;
         last = t;
         i += 1;
     }
-    let w = sum.told();
-    record::weighed(1, m, n, w)
+    if seen.is_plain(ModeSpace { count: m }) {
+        return Checked {
+            refusal: Refusal::NONE,
+            modes: m,
+            terms: n,
+            weight: seen.weight,
+        };
+    }
+    record::check(s, 1)
 }
 
 // The check of a record, and the terms and weights of its ranks, counted from zeros. They tell nothing where it is refused.
@@ -83,11 +113,7 @@ pub fn tally_record(s: &[u8], terms: &mut [u64; 65], weights: &mut [u64; 65]) ->
     ensures { λ r. ⌜ Tallies (now (s .entry)) r (now (terms .exit)) (now (weights .exit)) ⌝ }
 {
     if !record::laid_out(s) {
-        return Checked::refused(Refusal {
-            number: 1,
-            operand: 1,
-            place: 0,
-        });
+        return record::check(s, 1);
     }
     let m = record::modes_of(s);
     let n = record::count_of(s);

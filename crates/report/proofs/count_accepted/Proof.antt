@@ -17,7 +17,7 @@ grow-share-requires : tie.Need-grow-share-requires
 grow-share-requires c κs =
     let s = c .before .before .before in
     let l = s .args .report .now in
-    (total-inside l _ _ _ (s .pre), total-within l _ _ _ (s .pre), s .pre .few, s .pre .light)
+    (total-inside l _ _ _ (s .pre), total-within l _ _ _ (s .pre), s .pre .few, s .pre .light, s .pre .empty)
 
 slice-read-larger : tie.Need-slice-read-larger
 slice-read-larger c =

@@ -39,7 +39,7 @@ grow-share-requires c κs =
     let g = at-loop .loop .inv .1 in
     let a = at-loop .before .before .pre in
     let h = in-loop .loop-test .taken in
-    (share-inside _ _ _ _ _ g a h, share-within _ _ _ _ _ g a h, a .figures .few _ h, a .figures .light _ h)
+    (share-inside _ _ _ _ _ g a h, share-within _ _ _ _ _ g a h, a .figures .few _ h, a .figures .light _ h, a .figures .empty _ h)
 
 add-r : tie.Need-add-r Inv-loop μ-loop
 add-r c = search needs

@@ -1,11 +1,9 @@
 -- `tally::tally_record` meets its contract.
 use native.Mathlib.Omega.{arith}
-use mathlib.Core.Path.{_≡_, sym, ap, _∙_}
+use mathlib.Core.Path.{sym, _∙_}
 use borrow.Author.Tests.{not-true, not-false}
-use Rattle.record.specs.declared.Checked.{Checked}
 use Rattle.record.proofs.Header.{laid}
-use Rattle.record.proofs.Checking.{header-bad}
-use Rattle.tally.proofs.Tallying.{refused-found}
+use Rattle.tally.proofs.Tallying.{header-found}
 use borrow.Author.Needs.{needs}
 use Rattle.tally.proofs.tally_record.Statement.{statement}
 use Rattle.tally.proofs.tally_record.Tie as tie
@@ -13,14 +11,13 @@ use Rattle.tally.proofs.tally_record.Tie as tie
 laid-out-requires : tie.Need-laid-out-requires
 laid-out-requires c κs = search needs
 
-refused-requires : tie.Need-refused-requires
-refused-requires c κs = search needs
+check-requires : tie.Need-check-requires
+check-requires c κs = search needs
 
 returns : tie.Need-returns
 returns c =
-    let found = c .refused .ensures ∙ header-bad _ _ (sym (c .before .before .laid-out .ensures) ∙ not-true _ (c .before .if1 .taken)) in
-    let told : c .refused .result .refusal .number ≡ 1 = ap (λ (x : Checked). x .refusal .number) (c .refused .ensures) in
-    refused-found _ _ found (λ z. absurd (omega (arith, told, z))) _ _
+    let at-laid-out = c .before .before in
+    header-found _ _ (c .check .ensures) (sym (at-laid-out .laid-out .ensures) ∙ not-true _ (c .before .if1 .taken)) _ _
 
 modes-of-requires : tie.Need-modes-of-requires
 modes-of-requires c κs = omega (arith, laid _ (sym (c .before .laid-out .ensures) ∙ not-false _ (c .if1 .left)) .size)
@@ -44,7 +41,7 @@ tally-record-spec =
     tie.close
     (tie.spec
     laid-out-requires
-    refused-requires
+    check-requires
     returns
     modes-of-requires
     count-of-requires
