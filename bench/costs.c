@@ -213,7 +213,7 @@ static void run_batch_check(void)
 }
 static void run_batch_report(void)
 {
-    if (report[0] == FERMION_MAX_REPORTED) /* it counts no more: one call in so many begins with a fresh one */
+    if (report[0] + report[1] == FERMION_MAX_REPORTED) /* it counts no more: one call in so many begins with a fresh one */
         memset(report, 0, sizeof report);
     for (int i = 0; i < BATCH; i++)
         lib->report_add(batch[i], batch_len[i], report, answer);
@@ -306,6 +306,16 @@ static void count_two_body(unsigned modes, size_t n, const char *on)
     count_batch(on);
 }
 
+/* records that are refused, since the coefficient of one term is zero */
+static void count_with_zero(size_t place, const char *on)
+{
+    for (int i = 0; i < BATCH; i++) {
+        batch_len[i] = two_body(batch[i], 64, TERMS);
+        put(batch[i] + 32 + 8 * (2 * TERMS + place), 0, 8);
+    }
+    count_batch(on);
+}
+
 static void count_batches(void)
 {
     count_two_body(16, TERMS, "16 records in turn, 2,048 two-body terms, 16 modes");
@@ -315,6 +325,8 @@ static void count_batches(void)
     count_two_body(64, 256, "16 records in turn, 256 two-body terms, 64 modes");
     count_two_body(64, 64, "16 records in turn, 64 two-body terms, 64 modes");
     count_two_body(64, 0, "16 records in turn, no terms");
+    count_with_zero(TERMS - 1, "16 records in turn, 2,048 two-body terms, 64 modes, the last of them zero");
+    count_with_zero(0, "16 records in turn, 2,048 two-body terms, 64 modes, the first of them zero");
     for (int i = 0; i < BATCH; i++)
         batch_len[i] = any_words(batch[i], TERMS);
     count_batch("16 records in turn, 2,048 terms of random words, 64 modes");

@@ -360,6 +360,27 @@ def check_one_rank(calls):
                 calls.tally.same("2,048 terms of one rank: by formula", report[at:at + 3], told, (rank, low))
 
 
+# Many terms
+
+
+def two_body(rng, n):
+    """n terms of two creations and two annihilations on 16 modes, so that annihilation words repeat."""
+    pairs = [1 << p | 1 << q for p, q in itertools.combinations(range(16), 2)]
+    return [(*words, rng.choice((-1, 1))) for words in sorted(rng.sample(list(itertools.product(pairs, pairs)), n))]
+
+
+def check_long(calls):
+    """2,048 terms: sound, also with a weight of 2^60; then damaged at the first, at the last and at one between, also twice."""
+    rng, n = calls.rng, 2048
+    for m, good in (16, two_body(rng, n)), (33, draws.many(rng, 33, n)), (64, draws.many(rng, 64, n)):
+        report = count(calls, "2,048 terms", records.encode(m, good), FRESH)
+        count(calls, "2,048 terms", records.encode(m, weighed(good, HEAVIEST)), report)
+        for number, place, rows in (*draws.damaged_terms(rng, m, good), *draws.two_faults(rng, m, good)):
+            answer = calls.judge("2,048 terms, damaged", "report_add", records.encode(m, rows), FRESH)
+            told = records.Answer([0, 0, 0, 0, 0, 0, number, place], (records.words(with_numbers(FRESH, 1, 1)),))
+            calls.tally.same("2,048 terms, damaged: by hand", answer, told, (m, number, place))
+
+
 # Weights
 
 
@@ -421,6 +442,6 @@ def check_drawn_reports(calls):
 
 run(SEED, (
     check_example, check_drawn, check_order, check_alike, check_refused, check_counts, check_shares, check_largest,
-    check_unlike, check_passed, check_not_looked_at, check_ranks, check_one_term, check_one_rank, check_heavy,
+    check_unlike, check_passed, check_not_looked_at, check_ranks, check_one_term, check_one_rank, check_long, check_heavy,
     check_drawn_reports,
 ))
