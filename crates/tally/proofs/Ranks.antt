@@ -16,6 +16,7 @@ use Rattle.record.specs.Reading.{At}
 use Rattle.figures.specs.Figures.{rankOf}
 use Rattle.tally.specs.Ranks.{chosen, ofRank}
 use Rattle.tally.specs.Tallies.{noneYet}
+use Rattle.tally.specs.Walks.{Column}
 
 module _ (r : ℕ) (ts us : List Term) (t : Term) (e : ts ≡ t ∷ us) where
   rank-here : rankOf t ≡ r → ofRank r ts ≡ t ∷ ofRank r us
@@ -67,10 +68,6 @@ with-stored c i x r h P here there = go (eqb i r) refl
     go : (b : Bool) → eqb i r ≡ b → P (getD (set c i x) r 0)
     go true e = let q : i ≡ r = eqb-true i r e in rw (← q, getD-set-same c i x 0 h) (here q)
     go false e = let q : i ≡ r → ⊥ = eqb-false i r e in rw (getD-set-other c i r x 0 (λ z. q (sym z))) (there q)
-
--- what stands in a column for each rank, what is left from the i-th term on, and the whole, as P has them
-abbrev pub Column : (ℕ → ℕ → ℕ → Type 0) → (List Term → ℕ) → List Term → ℕ → List ℕ → Type 0
-Column P g ts i c = (r : ℕ) → r < 65 → P (getD c r 0) (g (ofRank r (drop i ts))) (g (ofRank r ts))
 
 module _ (P : ℕ → ℕ → ℕ → Type 0) {f : Term → ℕ} {g : List Term → ℕ} (sums : Additive f g) (ts : List Term) where
   pub column-starts : ((x : ℕ) → P 0 x x) → Column P g ts 0 noneYet

@@ -1,27 +1,32 @@
--- What is seen of the terms on the way, and what it tells of them at the end.
+-- What is seen of the terms, from one to the next.
 use mathlib.Core.Path.{_≡_, refl, sym, ap, _∙_}
-use mathlib.Core.Bool.{Bool, true, false, cond, _||_}
-use mathlib.Core.List.{List, []}
-use Prim.Native.Nat.{ℕ, _+_, _%_, _^_, _≤_, _<_}
-use native.Mathlib.Nat.{mod-eq-of-lt}
+use mathlib.Core.Logic.{⊎-elim}
+use mathlib.Core.Bool.{Bool, true, false, cond, not, _||_}
+use mathlib.Core.List.{List, _∷_}
+use Prim.Native.Nat.{ℕ, suc, _+_, _-_, _%_, _^_, _≤_, _<_}
+use native.Mathlib.Nat.{div-add-mod', mod-eq-of-lt, mod-lt}
+use native.Mathlib.Numerals.{add-one}
 use native.Mathlib.Omega.{arith}
-use lib.Bits.{bitOr, or-add-and, and-le-l, and-le-r}
+use lib.Bits.{bitOr, or-lt, or-add-and, and-le-l, and-le-r}
+use lib.Dec.{eqb, ltb}
 use lib.IntN.{natAbs}
 use lib.ListN.{drop}
-use lib.Dec.{ltb}
-use borrow.Author.Tests.{lt-ltb, ltb-true, leb-true}
+use lib.Pow.{pow-pos}
+use borrow.Author.Tests.{lt-ltb, ltb-true, eqb-false, not-true}
 use Rattle.modes.specs.declared.Term.{Term}
-use Rattle.modes.specs.Answers.{none}
+use Rattle.modes.specs.declared.Refusal.{Refusal}
+use Rattle.modes.specs.Answers.{none, refusal}
+use Rattle.modes.specs.Refusals.{orElse, need}
 use Rattle.modes.specs.Spaces.{inside}
 use Rattle.modes.proofs.Bools.{and-l, and-r}
+use Rattle.modes.proofs.Digits.{lt-or-ge}
+use Rattle.modes.proofs.Refusals.{or-second, neither, needed}
 use Rattle.record.specs.Terms.{before, weight}
 use Rattle.record.specs.Reading.{At}
+use Rattle.record.specs.Refusals.{termRefusal, termsRefusal}
 use Rattle.record.proofs.Refusals.{right-term}
-use Rattle.record.specs.Layout.{laidOut, modesOf, countOf, termsIn}
-use Rattle.record.specs.Refusals.{checkedOf}
-use Rattle.record.specs.declared.Checked.{Checked}
-use Rattle.record.proofs.Checking.{Going, begin, goes, none-refused, total, accepted-is, weight-front}
-use Rattle.tally.specs.Tallies.{seenWith, isPlain}
+use Rattle.record.proofs.Checking.{weight-front}
+use Rattle.tally.specs.Walks.{seenWith, Seeing}
 use Rattle.tally.specs.declared.Seen.{Seen}
 
 -- a union is at least each of its words
@@ -31,30 +36,72 @@ or-left x y = omega (arith, or-add-and x y, and-le-r x y)
 or-right : (x y : ℕ) → y ≤ bitOr x y
 or-right x y = omega (arith, or-add-and x y, and-le-l x y)
 
--- before the i-th term, which stands after last unless it is the first
-pub record Seeing (m : ℕ) (ts : List Term) (first : Bool) (last : Term) (s : Seen) (i : ℕ) : Type 0 where
-  pub held : s .weight ≤ s .bits
-  pub exact : s .bits < 2 ^ 61 → s .weight + weight (drop i ts) ≡ weight ts
-  pub going : s .modes < 2 ^ m → s .bits < 2 ^ 61 → Going 1 m ts first last (s .weight) i
+pub seen-is : (s : Seen) (t : Term) (k : ℕ) (up : Bool) (w kept less : ℕ) → up ≡ (s .first || before (s .last) t) → w ≡ (s .weight + k) % 2 ^ 64
+    → kept ≡ cond up k 0 → less ≡ (kept + (2 ^ 64 - 1)) % 2 ^ 64
+    → _≡_ {A = Seen} (record { first = false; last = t; modes = bitOr (s .modes) (bitOr (t .cre) (t .ann)); weight = w; bits = bitOr (s .bits) (bitOr w less) })
+    (seenWith t k s)
+seen-is s t k up w kept less eu ew ek el = rw (el, ek, eu, ew)
 
-module _ (m : ℕ) (ts : List Term) where
-  pub seeing-starts : (last : Term) → Seeing m ts true last (record { modes = 0; weight = 0; bits = 0 }) 0
-  seeing-starts last = record { held = omega arith; exact = λ h. omega arith; going = λ h b. begin 1 m ts last }
+-- one less than a number from 1 to 2^60 has no bit above
+less-than : (k : ℕ) → (k ≡ 0 → ⊥) → k ≤ 2 ^ 60 → (x : ℕ) → x ≡ k + (2 ^ 64 - 1) → x % 2 ^ 64 < 2 ^ 61
+less-than k some small x e =
+    let positive : 0 < k = ⊎-elim (λ h. absurd (some (omega arith))) (λ h. h) (lt-or-ge k 1) in
+    omega (arith, e, positive, small, div-add-mod' x (2 ^ 64), mod-lt x (pow-pos 64))
 
-  module _ (first : Bool) (last : Term) (s : Seen) (i : ℕ) (g : Seeing m ts first last s i) (t : Term) (at : At ts i t) (k : ℕ)
-      (is : (k ≡ natAbs (t .coeff)) × (k ≤ 2 ^ 63)) (up : Bool) (eu : up ≡ (first || before last t)) (kept : ℕ) (ek : kept ≡ cond up k 0) where
+-- ---- the refusal of a term, and of those from it on
+
+module _ (m i : ℕ) (up : Bool) (t : Term) (e : (termRefusal 1 m i up t) .number ≡ 0) where
+  abbrev nonzero : Bool
+  nonzero = not (eqb (natAbs (t .coeff)) 0)
+
+  parts : ((need (inside m (t .cre) (t .ann)) (refusal 2 1 i)) .number ≡ 0) × ((orElse (need up (refusal 3 1 i)) (need nonzero (refusal 4 1 i))) .number ≡ 0)
+  unfolding termRefusal
+  parts = neither _ _ e
+
+  term-inside : inside m (t .cre) (t .ann) ≡ true
+  term-inside = needed (inside m (t .cre) (t .ann)) (refusal 2 1 i) (λ z. absurd (omega arith)) (parts .0)
+
+  term-up : up ≡ true
+  term-up = needed up (refusal 3 1 i) (λ z. absurd (omega arith)) (neither _ _ (parts .1) .0)
+
+  term-nonzero : natAbs (t .coeff) ≡ 0 → ⊥
+  term-nonzero = eqb-false _ _ (not-true _ (needed nonzero (refusal 4 1 i) (λ z. absurd (omega arith)) (neither _ _ (parts .1) .1)))
+
+front : (m i : ℕ) (up : Term → Bool) (ts us : List Term) (t : Term) → ts ≡ t ∷ us
+    → termsRefusal 1 m i up ts ≡ orElse (termRefusal 1 m i (up t) t) (termsRefusal 1 m (suc i) (before t) us)
+unfolding termsRefusal
+front m i up ts us t e = rw e
+
+-- ---- from term to term
+
+module _ (ts : List Term) where
+  pub seeing-starts : (last : Term) → Seeing ts (record { first = true; last = last; modes = 0; weight = 0; bits = 0 }) 0
+  seeing-starts last =
+      record {
+        held = omega arith;
+        exact = λ h. omega arith;
+        rest = λ m b h. refl;
+        fine = λ m z h. (pow-pos m, omega arith);
+      }
+
+  module _ (s : Seen) (i : ℕ) (g : Seeing ts s i) (t : Term) (at : At ts i t) (k : ℕ) (is : (k ≡ natAbs (t .coeff)) × (k ≤ 2 ^ 63)) where
+    abbrev up : Bool
+    up = s .first || before (s .last) t
+
+    abbrev kept : ℕ
+    kept = cond up k 0
+
     abbrev now : ℕ
     now = (s .weight + k) % 2 ^ 64
 
     abbrev less : ℕ
-    less = (kept + 18446744073709551615) % 2 ^ 64
+    less = (kept + (2 ^ 64 - 1)) % 2 ^ 64
+
+    abbrev words : ℕ
+    words = bitOr (t .cre) (t .ann)
 
     abbrev next : Seen
-    next = seenWith t k kept s
-
-    -- zero less one has every bit
-    full : kept ≡ 0 → less ≡ 18446744073709551615
-    full z = ap (λ (x : ℕ). (x + 18446744073709551615) % 2 ^ 64) z
+    next = seenWith t k s
 
     bits-stay : s .bits ≤ next .bits
     bits-stay = or-left (s .bits) (bitOr now less)
@@ -62,60 +109,80 @@ module _ (m : ℕ) (ts : List Term) where
     now-held : now ≤ next .bits
     now-held = omega (arith, or-left now less, or-right (s .bits) (bitOr now less))
 
+    split : weight (drop i ts) ≡ k + weight (drop (i + 1) ts)
+    split = weight-front _ _ t at ∙ rw (is .0)
+
+    step : s .bits < 2 ^ 61 → now ≡ s .weight + k
+    step h = mod-eq-of-lt (omega (arith, g .held, is .1))
+
+    -- zero less one has every bit
+    full : kept ≡ 0 → less ≡ 2 ^ 64 - 1
+    full z = ap (λ (x : ℕ). (x + (2 ^ 64 - 1)) % 2 ^ 64) z
+
+    turn : (m : ℕ) → s .modes < 2 ^ m → s .bits < 2 ^ 61
+        → termsRefusal 1 m 0 (λ _. true) ts ≡ orElse (termRefusal 1 m i up t) (termsRefusal 1 m (suc i) (before t) (drop (i + 1) ts))
+    turn m b h = g .rest m b h ∙ front m i _ _ _ t at
+
     -- no bit above the 61st was seen: the sum did not wrap, and the term stands rightly and is not zero
     module _ (h : next .bits < 2 ^ 61) where
       below : s .bits < 2 ^ 61
       below = omega (arith, bits-stay)
 
-      step : now ≡ s .weight + k
-      step = mod-eq-of-lt (omega (arith, g .held, below, is .1))
-
       low : less < 2 ^ 61
       low = omega (arith, or-right now less, or-right (s .bits) (bitOr now less))
 
-      sound : (first || before last t ≡ true) × (natAbs (t .coeff) ≡ 0 → ⊥)
-      sound = go up ek (sym eu)
+      sound : (up ≡ true) × (natAbs (t .coeff) ≡ 0 → ⊥)
+      sound = go up refl
         where
-          go : (b : Bool) → kept ≡ cond b k 0 → first || before last t ≡ b → (first || before last t ≡ true) × (natAbs (t .coeff) ≡ 0 → ⊥)
-          go true e q = (q, λ z. absurd (omega (arith, low, full (e ∙ is .0 ∙ z))))
-          go false e q = absurd (omega (arith, low, full e))
-
-      split : weight (drop i ts) ≡ k + weight (drop (i + 1) ts)
-      split = weight-front _ _ t at ∙ rw (is .0)
+          go : (b : Bool) → up ≡ b → (up ≡ true) × (natAbs (t .coeff) ≡ 0 → ⊥)
+          go true q = (q, λ z. absurd (omega (arith, low, full (ap (λ (b : Bool). cond b k 0) q ∙ is .0 ∙ z))))
+          go false q = absurd (omega (arith, low, full (ap (λ (b : Bool). cond b k 0) q)))
 
       sum : next .weight + weight (drop (i + 1) ts) ≡ weight ts
-      sum = omega (arith, step, split, g .exact below)
+      sum = omega (arith, step below, split, g .exact below)
 
-      module _ (b : next .modes < 2 ^ m) where
+      module _ (m : ℕ) (b : next .modes < 2 ^ m) where
         fits : inside m (t .cre) (t .ann) ≡ true
         unfolding inside
         fits =
-            let cre-in = or-left (t .cre) (t .ann) in
-            let ann-in = or-right (t .cre) (t .ann) in
-            let both-in = or-right (s .modes) (bitOr (t .cre) (t .ann)) in
-            rw (lt-ltb (t .ann) (2 ^ m) (omega (arith, b, ann-in, both-in)), lt-ltb (t .cre) (2 ^ m) (omega (arith, b, cre-in, both-in)))
+            let both-in = or-right (s .modes) words in
+            rw (
+              lt-ltb (t .ann) (2 ^ m) (omega (arith, b, or-right (t .cre) (t .ann), both-in)),
+              lt-ltb (t .cre) (2 ^ m) (omega (arith, b, or-left (t .cre) (t .ann), both-in)),
+            )
 
-        further : Going 1 m ts false t (next .weight) (i + 1)
+        further : termsRefusal 1 m 0 (λ _. true) ts ≡ termsRefusal 1 m (i + 1) (before t) (drop (i + 1) ts)
         further =
-            let so-far = g .going (omega (arith, b, or-left (s .modes) (bitOr (t .cre) (t .ann)))) below in
-            let judged = right-term 1 m i (first || before last t) t fits (sound .0) (sound .1) in
-            record {
-              rest = goes 1 m ts first last (s .weight) i so-far t at none judged refl k (is .0) .rest;
-              weighs = record { exact = λ h. sum; over = λ h. omega (arith, sum) };
-            }
+            let judged : none ≡ termRefusal 1 m i up t = right-term 1 m i up t fits (sound .0) (sound .1) in
+            let number = ap (λ (r : Refusal). r .number) (sym judged) in
+            turn m (omega (arith, b, or-left (s .modes) words)) below ∙ or-second (termRefusal 1 m i up t) _ number ∙ rw add-one
 
-    pub seeing-goes : (u : Seen) → u ≡ next → Seeing m ts false t u (i + 1)
-    seeing-goes u e = rw e (record { held = now-held; exact = sum; going = λ b h. further h b })
+    -- nothing refuses a term, and their weight is no larger than a record's: then no flaw is seen
+    module _ (m : ℕ) (z : (termsRefusal 1 m 0 (λ _. true) ts) .number ≡ 0) (light : weight ts ≤ 2 ^ 60) where
+      so-far : (s .modes < 2 ^ m) × (s .bits < 2 ^ 61)
+      so-far = g .fine m z light
 
--- all terms of the bytes l were looked at, and nothing refuses them
-module _ (l : List ℕ) (m n : ℕ) (yes : laidOut l ≡ true) (em : m ≡ modesOf l) (en : n ≡ countOf l) where
-  pub plain-accepted : (first : Bool) (last : Term) (s : Seen) (i : ℕ) → Seeing m (termsIn l n) first last s i → drop i (termsIn l n) ≡ [] → isPlain m s ≡ true
-      → _≡_ {A = Checked} (record { refusal = none; modes = m; terms = n; weight = s .weight }) (checkedOf 1 l)
-  plain-accepted first last s i g done e =
-      let rest = and-r (ltb (s .modes) (2 ^ m)) _ e in
-      let inside = ltb-true _ _ (and-l (ltb (s .modes) (2 ^ m)) _ e) in
-      let exact = ltb-true _ _ (and-l (ltb (s .bits) (2 ^ 61)) _ rest) in
-      let light = leb-true _ _ (and-r (ltb (s .bits) (2 ^ 61)) _ rest) in
-      let going = g .going inside exact in
-      let fine = none-refused 1 m (termsIn l n) first last (s .weight) i going done in
-      accepted-is 1 l m n yes em en fine (s .weight) (total 1 m (termsIn l n) first last (s .weight) i going done light) light
+      unrefused : (termRefusal 1 m i up t) .number ≡ 0
+      unrefused = neither _ _ (sym (ap (λ (r : Refusal). r .number) (turn m (so-far .0) (so-far .1))) ∙ z) .0
+
+      now-low : now < 2 ^ 61
+      now-low = omega (arith, step (so-far .1), split, g .exact (so-far .1))
+
+      less-low : less < 2 ^ 61
+      less-low =
+          let whole : kept ≡ k = ap (λ (b : Bool). cond b k 0) (term-up m i up t unrefused) in
+          let some : k ≡ 0 → ⊥ = λ e. term-nonzero m i up t unrefused (sym (is .0) ∙ e) in
+          less-than k some (omega (arith, split, g .exact (so-far .1))) (kept + (2 ^ 64 - 1)) (ap (λ (x : ℕ). x + (2 ^ 64 - 1)) whole)
+
+      words-low : words < 2 ^ m
+      unfolding inside
+      words-low =
+          let both = term-inside m i up t unrefused in
+          or-lt m (t .cre) (t .ann) (ltb-true _ _ (and-r (ltb (t .ann) (2 ^ m)) _ both)) (ltb-true _ _ (and-l (ltb (t .ann) (2 ^ m)) _ both))
+
+      clean : (next .modes < 2 ^ m) × (next .bits < 2 ^ 61)
+      clean =
+          (or-lt m (s .modes) words (so-far .0) words-low, or-lt 61 (s .bits) (bitOr now less) (so-far .1) (or-lt 61 now less now-low less-low))
+
+    pub seeing-goes : (u : Seen) → u ≡ next → Seeing ts u (i + 1)
+    seeing-goes u e = rw e (record { held = now-held; exact = sum; rest = λ m b h. further h m b; fine = clean })

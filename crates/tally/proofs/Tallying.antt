@@ -2,7 +2,7 @@
 use mathlib.Core.Path.{_≡_, refl, sym, ap, _∙_}
 use mathlib.Core.Bool.{false}
 use mathlib.Core.List.{List, []}
-use Prim.Native.Nat.{ℕ, _+_, _*_, _/_, _%_, _^_, _≤_, _<_}
+use Prim.Native.Nat.{ℕ, _+_, _/_, _%_, _^_, _≤_, _<_}
 use native.Mathlib.Nat.{div-add-mod'}
 use native.Mathlib.Omega.{arith}
 use lib.IntN.{natAbs}
@@ -18,16 +18,12 @@ use Rattle.record.proofs.Accepted.{accepted}
 use Rattle.record.proofs.Checking.{refused-is, not-laid}
 use Rattle.figures.specs.Figures.{rankOf}
 use Rattle.tally.specs.Tallies.{noneYet, Tallied, Tallies}
-use Rattle.tally.proofs.Ranks.{lengths, weights, rank-part, Column, column-starts, column-ends, column-here, column-goes}
+use Rattle.tally.specs.Walks.{Wraps, Tallying, Walked}
+use Rattle.tally.specs.declared.Seen.{Seen}
+use Rattle.tally.proofs.Ranks.{lengths, weights, rank-part, column-starts, column-ends, column-here, column-goes}
 
--- what was counted and what is left make the whole
 abbrev Adds : ℕ → ℕ → ℕ → Type 0
 Adds x left whole = x + left ≡ whole
-
--- a sum in 64 bits, which wrapped so many times
-pub record Wraps (x left whole : ℕ) : Type 0 where
-  pub times : ℕ
-  pub is : x + times * 2 ^ 64 + left ≡ whole
 
 wraps-more : (x k left whole : ℕ) → Wraps x (k + left) whole → Wraps ((x + k) % 2 ^ 64) left whole
 wraps-more x k left whole g =
@@ -35,13 +31,6 @@ wraps-more x k left whole g =
       times = g .times + (x + k) / 2 ^ 64;
       is = omega (arith, g .is, div-add-mod' (x + k) (2 ^ 64));
     }
-
--- both columns before the i-th term
-pub record Tallying (ts : List Term) (i : ℕ) (terms sizes : List ℕ) : Type 0 where
-  pub terms-size : length terms ≡ 65
-  pub sizes-size : length sizes ≡ 65
-  pub number : Column Adds length ts i terms
-  pub sum : Column Wraps weight ts i sizes
 
 module _ (ts : List Term) where
   pub tally-starts : Tallying ts 0 noneYet noneYet
@@ -86,7 +75,11 @@ module _ (ts : List Term) where
                   (λ left whole so. rw ey (wraps-more (getD sizes r 0) k left whole (rw (← is) at so)));
             }
 
--- what is found of the bytes l once all terms were looked at, whoever checked them
+-- a walk that is not before the end of its part is there
+pub walk-ends : (ts : List Term) (s : Seen) (i to : ℕ) (terms sizes : List ℕ) → i ≤ to → to ≤ i → Walked ts s i terms sizes → Walked ts s to terms sizes
+walk-ends ts s i to terms sizes h k g = let e : to ≡ i = omega arith in rw e g
+
+-- what is found of the bytes l once all terms were looked at
 pub all-found : (l : List ℕ) (c : Checked) → c ≡ checkedOf 1 l → (n : ℕ) → n ≡ countOf l → (i : ℕ) (terms sizes : List ℕ)
     → Tallying (termsIn l n) i terms sizes → drop i (termsIn l n) ≡ [] → Tallies l c terms sizes
 all-found l c e n count i terms sizes g done =
@@ -97,9 +90,12 @@ all-found l c e n count i terms sizes g done =
           rw (← count) (tally-ends (termsIn l n) i terms sizes g light done);
     }
 
--- or none were, since the header is bad: nothing is told of the columns of a refused record
+-- or once it is refused: nothing is told of the columns then
+pub refused-found : (l : List ℕ) (c : Checked) → c ≡ checkedOf 1 l → (c .refusal .number ≡ 0 → ⊥) → (terms sizes : List ℕ) → Tallies l c terms sizes
+refused-found l c e h terms sizes = record { checked = e; tallied = λ z. absurd (h z) }
+
 pub header-found : (l : List ℕ) (c : Checked) → c ≡ checkedOf 1 l → laidOut l ≡ false → (terms sizes : List ℕ) → Tallies l c terms sizes
 header-found l c e bad terms sizes =
     let refused = refused-is 1 l (refusal 1 1 0) (not-laid 1 l bad) (λ z. absurd (omega arith)) in
     let told : c .refusal .number ≡ 1 = ap (λ (x : Checked). x .refusal .number) (e ∙ sym refused) in
-    record { checked = e; tallied = λ z. absurd (omega (arith, told, z)) }
+    refused-found l c e (λ z. absurd (omega (arith, told, z))) terms sizes
