@@ -33,12 +33,12 @@ abs-nonzero : (z : ℤ) → (z ≡ pos 0 → ⊥) → natAbs z ≡ 0 → ⊥
 abs-nonzero z h e = h (abs-zero z e)
 
 -- a term that may stand where it stands
-record Right (m : ℕ) (up : Bool) (t : Term) : Type 0 where
+pub record Right (m : ℕ) (up : Bool) (t : Term) : Type 0 where
   pub inside : Inside m t
   pub above : up ≡ true
   pub nonzero : Nonzero t
 
-term-right : (o m i : ℕ) (up : Bool) (t : Term) → (termRefusal o m i up t) .number ≡ 0 → Right m up t
+pub term-right : (o m i : ℕ) (up : Bool) (t : Term) → (termRefusal o m i up t) .number ≡ 0 → Right m up t
 unfolding termRefusal inside
 term-right o m i up t e =
     let first = neither (need (inside m (t .cre) (t .ann)) (refusal 2 o i)) _ e in

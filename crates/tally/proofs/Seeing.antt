@@ -1,30 +1,29 @@
 -- What is seen of the terms, from one to the next.
 use mathlib.Core.Path.{_≡_, refl, sym, ap, _∙_}
 use mathlib.Core.Logic.{⊎-elim}
-use mathlib.Core.Bool.{Bool, true, false, cond, not, _||_}
+use mathlib.Core.Bool.{Bool, true, false, cond, _||_}
 use mathlib.Core.List.{List, _∷_}
 use Prim.Native.Nat.{ℕ, suc, _+_, _-_, _%_, _^_, _≤_, _<_}
 use native.Mathlib.Nat.{div-add-mod', mod-eq-of-lt, mod-lt}
 use native.Mathlib.Numerals.{add-one}
 use native.Mathlib.Omega.{arith}
 use lib.Bits.{bitOr, or-lt, or-add-and, and-le-l, and-le-r}
-use lib.Dec.{eqb, ltb}
 use lib.IntN.{natAbs}
 use lib.ListN.{drop}
 use lib.Pow.{pow-pos}
-use borrow.Author.Tests.{lt-ltb, ltb-true, eqb-false, not-true}
+use borrow.Author.Tests.{lt-ltb}
 use Rattle.modes.specs.declared.Term.{Term}
 use Rattle.modes.specs.declared.Refusal.{Refusal}
-use Rattle.modes.specs.Answers.{none, refusal}
-use Rattle.modes.specs.Refusals.{orElse, need}
+use Rattle.modes.specs.Answers.{none}
+use Rattle.modes.specs.Refusals.{orElse}
 use Rattle.modes.specs.Spaces.{inside}
-use Rattle.modes.proofs.Bools.{and-l, and-r}
 use Rattle.modes.proofs.Digits.{lt-or-ge}
-use Rattle.modes.proofs.Refusals.{or-second, neither, needed}
+use Rattle.modes.proofs.Refusals.{or-second, neither}
 use Rattle.record.specs.Terms.{before, weight}
 use Rattle.record.specs.Reading.{At}
 use Rattle.record.specs.Refusals.{termRefusal, termsRefusal}
 use Rattle.record.proofs.Refusals.{right-term}
+use Rattle.record.proofs.Accepted.{abs-zero, Right, term-right}
 use Rattle.record.proofs.Checking.{weight-front}
 use Rattle.tally.specs.Walks.{seenWith, Seeing}
 use Rattle.tally.specs.declared.Seen.{Seen}
@@ -48,25 +47,7 @@ less-than k some small x e =
     let positive : 0 < k = ⊎-elim (λ h. absurd (some (omega arith))) (λ h. h) (lt-or-ge k 1) in
     omega (arith, e, positive, small, div-add-mod' x (2 ^ 64), mod-lt x (pow-pos 64))
 
--- ---- the refusal of a term, and of those from it on
-
-module _ (m i : ℕ) (up : Bool) (t : Term) (e : (termRefusal 1 m i up t) .number ≡ 0) where
-  abbrev nonzero : Bool
-  nonzero = not (eqb (natAbs (t .coeff)) 0)
-
-  parts : ((need (inside m (t .cre) (t .ann)) (refusal 2 1 i)) .number ≡ 0) × ((orElse (need up (refusal 3 1 i)) (need nonzero (refusal 4 1 i))) .number ≡ 0)
-  unfolding termRefusal
-  parts = neither _ _ e
-
-  term-inside : inside m (t .cre) (t .ann) ≡ true
-  term-inside = needed (inside m (t .cre) (t .ann)) (refusal 2 1 i) (λ z. absurd (omega arith)) (parts .0)
-
-  term-up : up ≡ true
-  term-up = needed up (refusal 3 1 i) (λ z. absurd (omega arith)) (neither _ _ (parts .1) .0)
-
-  term-nonzero : natAbs (t .coeff) ≡ 0 → ⊥
-  term-nonzero = eqb-false _ _ (not-true _ (needed nonzero (refusal 4 1 i) (λ z. absurd (omega arith)) (neither _ _ (parts .1) .1)))
-
+-- the refusal of terms, of which t is the first
 front : (m i : ℕ) (up : Term → Bool) (ts us : List Term) (t : Term) → ts ≡ t ∷ us
     → termsRefusal 1 m i up ts ≡ orElse (termRefusal 1 m i (up t) t) (termsRefusal 1 m (suc i) (before t) us)
 unfolding termsRefusal
@@ -162,23 +143,20 @@ module _ (ts : List Term) where
       so-far : (s .modes < 2 ^ m) × (s .bits < 2 ^ 61)
       so-far = g .fine m z light
 
-      unrefused : (termRefusal 1 m i up t) .number ≡ 0
-      unrefused = neither _ _ (sym (ap (λ (r : Refusal). r .number) (turn m (so-far .0) (so-far .1))) ∙ z) .0
+      right : Right m up t
+      right = term-right 1 m i up t (neither _ _ (sym (ap (λ (r : Refusal). r .number) (turn m (so-far .0) (so-far .1))) ∙ z) .0)
 
       now-low : now < 2 ^ 61
       now-low = omega (arith, step (so-far .1), split, g .exact (so-far .1))
 
       less-low : less < 2 ^ 61
       less-low =
-          let whole : kept ≡ k = ap (λ (b : Bool). cond b k 0) (term-up m i up t unrefused) in
-          let some : k ≡ 0 → ⊥ = λ e. term-nonzero m i up t unrefused (sym (is .0) ∙ e) in
+          let whole : kept ≡ k = ap (λ (b : Bool). cond b k 0) (right .above) in
+          let some : k ≡ 0 → ⊥ = λ e. right .nonzero (abs-zero (t .coeff) (sym (is .0) ∙ e)) in
           less-than k some (omega (arith, split, g .exact (so-far .1))) (kept + (2 ^ 64 - 1)) (ap (λ (x : ℕ). x + (2 ^ 64 - 1)) whole)
 
       words-low : words < 2 ^ m
-      unfolding inside
-      words-low =
-          let both = term-inside m i up t unrefused in
-          or-lt m (t .cre) (t .ann) (ltb-true _ _ (and-r (ltb (t .ann) (2 ^ m)) _ both)) (ltb-true _ _ (and-l (ltb (t .ann) (2 ^ m)) _ both))
+      words-low = or-lt m (t .cre) (t .ann) (right .inside .cre) (right .inside .ann)
 
       clean : (next .modes < 2 ^ m) × (next .bits < 2 ^ 61)
       clean =
