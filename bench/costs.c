@@ -12,7 +12,8 @@
 #include <string.h>
 #include <time.h>
 
-enum { TERMS = 2048, RECORD = 32 + 24 * TERMS, WORK = 1 << 24, MOST_LIBRARIES = 16, TURNS = 17, BATCH = 16 };
+enum { TERMS = 2048, RECORD = 32 + 24 * TERMS, WORK = 1 << 24, MOST_LIBRARIES = 16, TURNS = 17 };
+enum { BATCH = 512, IN_TURN = 16 * TERMS }; /* the most records of a batch, and the terms of all of them */
 
 #define CALLS(X)                                                                                                            \
     X(apply) X(mul_cmpnts) X(check) X(add) X(sub) X(branches) X(mul) X(commutator) X(anticommutator) X(adjoint)             \
@@ -37,8 +38,10 @@ struct term {
 static uint8_t one[RECORD], two[RECORD], out[RECORD], work[WORK];
 static size_t one_len, two_len;
 static uint64_t words[2][TERMS], answer[8], report[FERMION_REPORT];
-static uint8_t batch[BATCH][RECORD]; /* records that are looked at in turn, so that no branch is learnt by heart */
+static uint8_t batch[32 * BATCH + 24 * IN_TURN]; /* records that are looked at in turn, so that no branch is learnt by heart */
+static uint8_t *batched[BATCH];
 static size_t batch_len[BATCH];
+static int n_batch;
 static double floats[TERMS], value[2];
 static int64_t matrix[64];
 static uint64_t seed = 20261115;
@@ -208,15 +211,15 @@ static void run_is_hermitian(void) { lib->is_hermitian(one, one_len, answer); }
 static void run_max_n_body(void) { lib->max_n_body(one, one_len, answer); }
 static void run_batch_check(void)
 {
-    for (int i = 0; i < BATCH; i++)
-        lib->check(batch[i], batch_len[i], answer);
+    for (int i = 0; i < n_batch; i++)
+        lib->check(batched[i], batch_len[i], answer);
 }
 static void run_batch_report(void)
 {
-    if (report[0] + report[1] == FERMION_MAX_REPORTED) /* it counts no more: one call in so many begins with a fresh one */
+    if (report[0] + report[1] + n_batch > FERMION_MAX_REPORTED) /* it has no room for them: one batch in some begins afresh */
         memset(report, 0, sizeof report);
-    for (int i = 0; i < BATCH; i++)
-        lib->report_add(batch[i], batch_len[i], report, answer);
+    for (int i = 0; i < n_batch; i++)
+        lib->report_add(batched[i], batch_len[i], report, answer);
 }
 static void run_block(void) { lib->block(one, one_len, ket, answer); }
 static void run_element(void) { lib->element(one, one_len, bra, ket, answer); }
@@ -287,52 +290,54 @@ static void columns_of(const uint8_t *record)
     }
 }
 
-/* The checks of a batch, and the report that counts it, where every library has it. */
-static void count_batch(const char *on)
+/* The makers of a batch's records. */
+typedef size_t maker(uint8_t *to, size_t n);
+static size_t two_body_16(uint8_t *to, size_t n) { return two_body(to, 16, n); }
+static size_t two_body_32(uint8_t *to, size_t n) { return two_body(to, 32, n); }
+static size_t two_body_64(uint8_t *to, size_t n) { return two_body(to, 64, n); }
+static size_t all_but_two(uint8_t *to, size_t n) { return nearly_all(to, n, 1, 1); }
+static size_t with_zero(uint8_t *to, size_t n, size_t place) /* refused, since the coefficient of one term is zero */
 {
+    size_t len = two_body(to, 64, n);
+    put(to + 32 + 8 * (2 * n + place), 0, 8);
+    return len;
+}
+static size_t last_zero(uint8_t *to, size_t n) { return with_zero(to, n, n - 1); }
+static size_t first_zero(uint8_t *to, size_t n) { return with_zero(to, n, 0); }
+
+/* The checks of a batch, and the report that counts it, where every library has it. */
+static void count_batch(size_t n, const char *of, maker *make)
+{
+    uint8_t *to = batch;
+    char on[128];
     int all = 1;
+    n_batch = n > IN_TURN / BATCH ? (int)(IN_TURN / n) : BATCH;
+    for (int i = 0; i < n_batch; i++) {
+        batched[i] = to;
+        to += batch_len[i] = make(to, n);
+    }
+    snprintf(on, sizeof on, "%d records in turn, %s", n_batch, of);
     for (int i = 0; i < n_libraries; i++)
         all = all && libraries[i].report_add != NULL;
-    line("check", on, run_batch_check, BATCH);
+    line("check", on, run_batch_check, n_batch);
     memset(report, 0, sizeof report);
     if (all)
-        line("report_add", on, run_batch_report, BATCH);
-}
-
-static void count_two_body(unsigned modes, size_t n, const char *on)
-{
-    for (int i = 0; i < BATCH; i++)
-        batch_len[i] = two_body(batch[i], modes, n);
-    count_batch(on);
-}
-
-/* records that are refused, since the coefficient of one term is zero */
-static void count_with_zero(size_t place, const char *on)
-{
-    for (int i = 0; i < BATCH; i++) {
-        batch_len[i] = two_body(batch[i], 64, TERMS);
-        put(batch[i] + 32 + 8 * (2 * TERMS + place), 0, 8);
-    }
-    count_batch(on);
+        line("report_add", on, run_batch_report, n_batch);
 }
 
 static void count_batches(void)
 {
-    count_two_body(16, TERMS, "16 records in turn, 2,048 two-body terms, 16 modes");
-    count_two_body(32, TERMS, "16 records in turn, 2,048 two-body terms, 32 modes");
-    count_two_body(64, TERMS, "16 records in turn, 2,048 two-body terms, 64 modes");
-    count_two_body(64, 1024, "16 records in turn, 1,024 two-body terms, 64 modes");
-    count_two_body(64, 256, "16 records in turn, 256 two-body terms, 64 modes");
-    count_two_body(64, 64, "16 records in turn, 64 two-body terms, 64 modes");
-    count_two_body(64, 0, "16 records in turn, no terms");
-    count_with_zero(TERMS - 1, "16 records in turn, 2,048 two-body terms, 64 modes, the last of them zero");
-    count_with_zero(0, "16 records in turn, 2,048 two-body terms, 64 modes, the first of them zero");
-    for (int i = 0; i < BATCH; i++)
-        batch_len[i] = any_words(batch[i], TERMS);
-    count_batch("16 records in turn, 2,048 terms of random words, 64 modes");
-    for (int i = 0; i < BATCH; i++)
-        batch_len[i] = nearly_all(batch[i], TERMS, 1, 1);
-    count_batch("16 records in turn, 2,048 terms {w\\|w} of 62 or 63 modes");
+    count_batch(TERMS, "2,048 two-body terms, 16 modes", two_body_16);
+    count_batch(TERMS, "2,048 two-body terms, 32 modes", two_body_32);
+    count_batch(TERMS, "2,048 two-body terms, 64 modes", two_body_64);
+    count_batch(1024, "1,024 two-body terms, 64 modes", two_body_64);
+    count_batch(256, "256 two-body terms, 64 modes", two_body_64);
+    count_batch(64, "64 two-body terms, 64 modes", two_body_64);
+    count_batch(0, "no terms", two_body_64);
+    count_batch(TERMS, "2,048 two-body terms, 64 modes, the last of them zero", last_zero);
+    count_batch(TERMS, "2,048 two-body terms, 64 modes, the first of them zero", first_zero);
+    count_batch(TERMS, "2,048 terms of random words, 64 modes", any_words);
+    count_batch(TERMS, "2,048 terms {w\\|w} of 62 or 63 modes", all_but_two);
 }
 
 static void read_one(const char *on)
