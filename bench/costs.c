@@ -304,6 +304,12 @@ static size_t with_zero(uint8_t *to, size_t n, size_t place) /* refused, since t
 }
 static size_t last_zero(uint8_t *to, size_t n) { return with_zero(to, n, n - 1); }
 static size_t first_zero(uint8_t *to, size_t n) { return with_zero(to, n, 0); }
+static size_t too_few_modes(uint8_t *to, size_t n) /* refused at one of the first terms, since the header has two modes */
+{
+    size_t len = two_body(to, 64, n);
+    put(to + 4, 2, 4);
+    return len;
+}
 
 /* The checks of a batch, and the report that counts it, where every library has it. */
 static void count_batch(size_t n, const char *of, maker *make)
@@ -336,6 +342,7 @@ static void count_batches(void)
     count_batch(0, "no terms", two_body_64);
     count_batch(TERMS, "2,048 two-body terms, 64 modes, the last of them zero", last_zero);
     count_batch(TERMS, "2,048 two-body terms, 64 modes, the first of them zero", first_zero);
+    count_batch(TERMS, "2,048 two-body terms, 64 modes, the header has 2", too_few_modes);
     count_batch(TERMS, "2,048 terms of random words, 64 modes", any_words);
     count_batch(TERMS, "2,048 terms {w\\|w} of 62 or 63 modes", all_but_two);
 }

@@ -116,4 +116,5 @@ def two_faults(rng, m, good):
         out = lambda some, k: some[:k] + [(some[k][0], some[k][1] | 1 << m, some[k][2])] + some[k + 1:]
         yield 4, i, out(zero_at(good, i), j)
         yield 2, i, zero_at(out(good, i), j)
+        yield 2, i, like_before(out(good, i), j)
         yield 2, j, out(heavy, j)

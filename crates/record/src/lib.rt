@@ -40,7 +40,7 @@ pub struct Checked {
 }
 
 impl Checked {
-    fn refused(refusal: Refusal) -> Checked
+    pub fn refused(refusal: Refusal) -> Checked
         ensures { λ r. ⌜ r ≡ refusedRecord refusal ⌝ }
     {
         Checked {
@@ -192,7 +192,7 @@ pub fn is_before(t: Term, u: Term) -> bool
 }
 
 // May t stand after `last`? Anything may stand first.
-fn follows(first: bool, last: Term, t: Term) -> bool
+pub fn follows(first: bool, last: Term, t: Term) -> bool
     ensures { λ r. ⌜ r ≡ (first || before last t) ⌝ }
 {
     if first {
@@ -209,7 +209,7 @@ pub fn size(t: Term) -> u64
 }
 
 // Numbers 2, 3 and 4 of the term t at `place`; `up` says that it is the first or above the one before it.
-fn term_refusal(space: ModeSpace, operand: u64, place: u64, up: bool, t: Term) -> Refusal
+pub fn term_refusal(space: ModeSpace, operand: u64, place: u64, up: bool, t: Term) -> Refusal
     ensures { λ r. ⌜ r ≡ termRefusal operand (space .count) place up t ⌝ }
 {
     if !modes::is_inside(space, t.cre, t.ann) {

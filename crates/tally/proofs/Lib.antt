@@ -1,5 +1,5 @@
 pub mod Seeing
-pub mod Plain
+pub mod Ends
 pub mod Ranks
 pub mod Tallying
 pub mod Unique

@@ -8,18 +8,18 @@ use native.Mathlib.Omega.{arith}
 use lib.IntN.{natAbs}
 use lib.ListN.{length, drop, getD, set, length-set}
 use Rattle.modes.specs.declared.Term.{Term}
+use Rattle.modes.specs.declared.Refusal.{Refusal}
 use Rattle.modes.specs.Answers.{refusal}
 use Rattle.record.specs.Terms.{weight}
 use Rattle.record.specs.Reading.{At}
 use Rattle.record.specs.Layout.{laidOut, termsIn, countOf}
-use Rattle.record.specs.Refusals.{checkedOf}
+use Rattle.record.specs.Refusals.{refusedRecord, checkedOf}
 use Rattle.record.specs.declared.Checked.{Checked}
 use Rattle.record.proofs.Accepted.{accepted}
 use Rattle.record.proofs.Checking.{refused-is, not-laid}
 use Rattle.figures.specs.Figures.{rankOf}
 use Rattle.tally.specs.Tallies.{noneYet, Tallied, Tallies}
-use Rattle.tally.specs.Walks.{Wraps, Tallying, Walked}
-use Rattle.tally.specs.declared.Seen.{Seen}
+use Rattle.tally.specs.Walks.{Wraps, Tallying}
 use Rattle.tally.proofs.Ranks.{lengths, weights, rank-part, column-starts, column-ends, column-here, column-goes}
 
 abbrev Adds : ℕ → ℕ → ℕ → Type 0
@@ -75,10 +75,6 @@ module _ (ts : List Term) where
                   (λ left whole so. rw ey (wraps-more (getD sizes r 0) k left whole (rw (← is) at so)));
             }
 
--- a walk that is not before the end of its part is there
-pub walk-ends : (ts : List Term) (s : Seen) (i to : ℕ) (terms sizes : List ℕ) → i ≤ to → to ≤ i → Walked ts s i terms sizes → Walked ts s to terms sizes
-walk-ends ts s i to terms sizes h k g = let e : to ≡ i = omega arith in rw e g
-
 -- what is found of the bytes l once all terms were looked at
 pub all-found : (l : List ℕ) (c : Checked) → c ≡ checkedOf 1 l → (n : ℕ) → n ≡ countOf l → (i : ℕ) (terms sizes : List ℕ)
     → Tallying (termsIn l n) i terms sizes → drop i (termsIn l n) ≡ [] → Tallies l c terms sizes
@@ -91,8 +87,12 @@ all-found l c e n count i terms sizes g done =
     }
 
 -- or once it is refused: nothing is told of the columns then
-pub refused-found : (l : List ℕ) (c : Checked) → c ≡ checkedOf 1 l → (c .refusal .number ≡ 0 → ⊥) → (terms sizes : List ℕ) → Tallies l c terms sizes
+refused-found : (l : List ℕ) (c : Checked) → c ≡ checkedOf 1 l → (c .refusal .number ≡ 0 → ⊥) → (terms sizes : List ℕ) → Tallies l c terms sizes
 refused-found l c e h terms sizes = record { checked = e; tallied = λ z. absurd (h z) }
+
+pub refusal-found : (l : List ℕ) (r : Refusal) → refusedRecord r ≡ checkedOf 1 l → (r .number ≡ 0 → ⊥) → (c : Checked) → c ≡ refusedRecord r
+    → (terms sizes : List ℕ) → Tallies l c terms sizes
+refusal-found l r is some c e = refused-found l c (e ∙ is) (λ z. some (sym (ap (λ (x : Checked). x .refusal .number) e) ∙ z))
 
 pub header-found : (l : List ℕ) (c : Checked) → c ≡ checkedOf 1 l → laidOut l ≡ false → (terms sizes : List ℕ) → Tallies l c terms sizes
 header-found l c e bad terms sizes =

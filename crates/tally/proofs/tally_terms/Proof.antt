@@ -1,85 +1,80 @@
--- `tally::tally_terms` meets its contract. The invariant: the walk so far, and that it saw no flaw.
-use mathlib.Core.Path.{_≡_, sym, _∙_}
-use mathlib.Core.Bool.{true}
-use Prim.Native.Nat.{_-_, _≤_}
+-- `tally::tally_terms` meets its contract.
+use mathlib.Core.Path.{sym, _∙_}
 use native.Mathlib.Omega.{arith}
 use borrow.Author.Tests.{not-true, not-false}
-use Rattle.record.specs.Layout.{termsIn}
 use Rattle.record.proofs.Header.{laid}
 use Rattle.record.proofs.Reading.{none-left}
-use Rattle.tally.specs.Walks.{isPlain, Walked}
-use Rattle.tally.proofs.Seeing.{seeing-starts}
-use Rattle.tally.proofs.Plain.{plain-at-first, plain-accepted, flawed-refused}
-use Rattle.tally.proofs.Tallying.{tally-starts, refused-found, all-found}
+use Rattle.tally.proofs.Ends.{stopped-is, light-is, heavy-is}
+use Rattle.tally.proofs.Tallying.{refusal-found, all-found}
 use borrow.Author.Needs.{needs}
 use Rattle.tally.proofs.tally_terms.Statement.{statement}
 use Rattle.tally.proofs.tally_terms.Tie as tie
 
-abbrev Inv-loop : tie.InvT-loop
-Inv-loop s m n terms₀ weights₀ seen₀ i₀ terms weights seen i = (i ≤ n) × Walked (termsIn s n) seen i terms weights × (isPlain m seen ≡ true)
+walk-requires : tie.Need-walk-requires
+walk-requires c κs =
+    let pre = c .before .before .before .pre in
+    let header = laid _ (pre .0) in
+    (omega (arith, header .size, pre .2), omega (arith, header .most, pre .1), pre .3, pre .4)
 
-abbrev μ-loop : tie.MeasureT-loop
-μ-loop s m n terms₀ weights₀ seen₀ i₀ terms weights seen i = n - i
+refusal-at-requires : tie.Need-refusal-at-requires
+refusal-at-requires c κs =
+    let at-walk = c .before .before .before in
+    let pre = at-walk .before .before .before .before .pre in
+    (omega (arith, laid _ (pre .0) .size, pre .2), c .if1 .taken)
 
-loop-holds : tie.Need-loop-holds Inv-loop μ-loop
-loop-holds c =
-    let pre = c .before .pre in
-    (search needs, record { seeing = seeing-starts _ _; tallying = rw (pre .3, pre .4) (tally-starts _) }, plain-at-first (c .before .args .m))
+refused-requires : tie.Need-refused-requires
+refused-requires c κs = search needs
 
-part-end-requires : tie.Need-part-end-requires Inv-loop μ-loop
-part-end-requires c κs = c .loop-test .taken
-
-tally-part-requires : tie.Need-tally-part-requires Inv-loop μ-loop
-tally-part-requires c κs =
-    let at-end = c .before .before in
-    let at-loop = at-end .before .before in
-    let pre = at-loop .before .before .pre in
-    let ends = at-end .part-end .ensures in
-    (omega (arith, laid _ (pre .0) .size, pre .2), omega (arith, ends .0), ends .1, at-loop .loop .inv .1)
-
-is-plain-requires : tie.Need-is-plain-requires Inv-loop μ-loop
-is-plain-requires c κs = search needs
-
-check-requires : tie.Need-check-requires Inv-loop μ-loop
-check-requires c κs = search needs
-
-returns : tie.Need-returns Inv-loop μ-loop
+returns : tie.Need-returns
 returns c =
-    let at-is-plain = c .before .before in
-    let at-part = at-is-plain .before in
-    let s = at-part .before .before .before .before .before .before .before in
-    let flawed = sym (at-is-plain .is-plain .ensures) ∙ not-true _ (c .before .if1 .taken) in
-    let refused = flawed-refused _ _ _ (s .pre .0) (s .pre .1) (s .pre .2) _ _ (at-part .tally-part .ensures .seeing) _ (c .check .ensures) flawed in
-    refused-found _ _ (c .check .ensures) refused _ _
+    let at-refusal = c .before in
+    let at-if1 = at-refusal .before in
+    let at-walk = at-if1 .before .before .before in
+    let s = at-walk .before .before .before .before in
+    let walked = at-walk .walk .ensures in
+    let refuses = at-refusal .refusal-at .ensures in
+    let some = walked .ended (at-if1 .if1 .taken) _ refuses in
+    refusal-found _ _ (stopped-is _ _ _ (s .pre .0) (s .pre .1) (s .pre .2) _ _ (walked .seeing) _ refuses some) some _ (c .refused .ensures) _ _
 
-loop-less : tie.Need-loop-less Inv-loop μ-loop
-loop-less c = let ends = c .before .before .before .before .before .part-end .ensures in omega (arith, ends .0, ends .1)
+is-light-requires : tie.Need-is-light-requires
+is-light-requires c κs = search needs
 
-loop-again : tie.Need-loop-again Inv-loop μ-loop
-loop-again c =
-    let at-part = c .before .before in
-    (at-part .before .before .before .part-end .ensures .1, at-part .tally-part .ensures, sym (c .before .is-plain .ensures) ∙ not-false _ (c .if1 .left))
+refused-requires-2 : tie.Need-refused-requires-2
+refused-requires-2 c κs = search needs
 
-returns-2 : tie.Need-returns-2 Inv-loop μ-loop
+returns-2 : tie.Need-returns-2
 returns-2 c =
-    let s = c .before .before .before in
-    let inv = c .before .loop .inv in
-    let done = none-left (s .args .s .now) _ _ (c .loop-test .left) in
-    let found = plain-accepted _ _ _ (s .pre .0) (s .pre .1) (s .pre .2) _ _ (inv .1 .seeing) done (inv .2) in
-    all-found _ _ found _ (s .pre .2) _ _ _ (inv .1 .tallying) done
+    let at-light = c .before .before in
+    let at-if1 = at-light .before in
+    let at-walk = at-if1 .before .before .before in
+    let s = at-walk .before .before .before .before in
+    let walked = at-walk .walk .ensures in
+    let done = none-left (s .args .s .now) _ _ (at-if1 .if1 .left) in
+    let heavy = sym (at-light .is-light .ensures) ∙ not-true _ (c .before .if2 .taken) in
+    let is = heavy-is _ _ _ (s .pre .0) (s .pre .1) (s .pre .2) _ _ (walked .seeing) done heavy in
+    refusal-found _ _ is (λ z. absurd (omega (arith, z))) _ (c .refused2 .ensures) _ _
+
+returns-3 : tie.Need-returns-3
+returns-3 c =
+    let at-light = c .before in
+    let at-if1 = at-light .before in
+    let at-walk = at-if1 .before .before .before in
+    let s = at-walk .before .before .before .before in
+    let walked = at-walk .walk .ensures in
+    let done = none-left (s .args .s .now) _ _ (at-if1 .if1 .left) in
+    let light = sym (at-light .is-light .ensures) ∙ not-false _ (c .if2 .left) in
+    let is = light-is _ _ _ (s .pre .0) (s .pre .1) (s .pre .2) _ _ (walked .seeing) done light in
+    all-found _ _ is _ (s .pre .2) _ _ _ (walked .tallying) done
 
 pub tally-terms-spec : {M : Type 1} → statement M
 tally-terms-spec =
     tie.close
     (tie.spec
-    Inv-loop
-    μ-loop
-    loop-holds
-    part-end-requires
-    tally-part-requires
-    is-plain-requires
-    check-requires
+    walk-requires
+    refusal-at-requires
+    refused-requires
     returns
-    loop-less
-    loop-again
-    returns-2)
+    is-light-requires
+    refused-requires-2
+    returns-2
+    returns-3)
