@@ -3,7 +3,7 @@ use mathlib.Core.Path.{_≡_, refl, sym, ap, ap₂, _∙_, subst, fun-ext}
 use mathlib.Core.Logic.{_⊎_, inl, inr}
 use mathlib.Core.Bool.{Bool, true, false, not, _&&_, _||_}
 use Prim.Native.Nat.{ℕ, zero, suc, _+_, _-_, _*_, _/_, _%_, _^_, _≤_, _<_, zero-le, suc-le-suc}
-use native.Mathlib.Nat.{le-of-suc-le-suc, not-suc-le-zero, zero-lt-suc, mod-lt, div-eq-of-lt, div-add-mod', div-one, lt-of-lt-of-le, lt-of-le-of-lt, lt-suc-self, one-mul, pow-suc}
+use native.Mathlib.Nat.{le-of-suc-le-suc, not-suc-le-zero, zero-lt-suc, mod-lt, mod-eq-of-lt, div-eq-of-lt, div-add-mod', div-one, lt-of-lt-of-le, lt-of-le-of-lt, lt-suc-self, one-mul, pow-suc}
 use native.Mathlib.Numerals.{add-one, one-add}
 use native.Mathlib.Omega.{arith}
 use lib.Dec.{eqb, ltb, T, eqb·zero-suc, eqb·suc-zero, eqb·suc-suc, lit<}
@@ -103,6 +103,10 @@ lt-pow-self (suc k) = lt-of-le-of-lt (lt-pow-self k) (pow-lt (lt-suc-self k))
 
 pub ext : (a b : ℕ) → ((p : ℕ) → bit a p ≡ bit b p) → a ≡ b
 ext a b h = ext-below (a + b) a b (lt-of-lt-of-le (lt-pow-self a) (pow-mono (omega arith))) (lt-of-lt-of-le (lt-pow-self b) (pow-mono (omega arith))) h
+
+-- a one that is shifted by fewer than 64 places stays in the word
+pub one-shifted : (q : ℕ) → q < 64 → (1 * 2 ^ q) % 2 ^ 64 ≡ 2 ^ q
+one-shifted q h = ap (λ (x : ℕ). x % 2 ^ 64) (one-mul (2 ^ q)) ∙ mod-eq-of-lt (pow-lt h)
 
 -- the word with the one mode q
 pub bit-pow : (q p : ℕ) → bit (2 ^ q) p ≡ eqb p q

@@ -19,7 +19,7 @@ use Rattle.tally.specs.declared.Reached.{Reached}
 abbrev pub comesAfter : Seen → Term → Bool
 comesAfter s t = s .first || before (s .last) t
 
--- a term of the magnitude k may come next: it is not zero, has no word above the last, and comes after the one before it
+-- a term of the magnitude k may come next: it is not zero, neither of its words is above `top`, and it comes after the one before it
 abbrev pub takesNext : ℕ → Term → ℕ → Seen → Bool
 takesNext top t k s = not (eqb k 0) && (leb (t .cre) top && (leb (t .ann) top && comesAfter s t))
 

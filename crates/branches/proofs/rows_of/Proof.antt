@@ -1,10 +1,10 @@
 -- `branches::rows_of` meets its contract: up to 58 branching modes the shift is exact, and from 59 on the rows are above the ceiling.
 use mathlib.Core.Path.{_≡_, sym, _∙_}
 use Prim.Native.Nat.{ℕ, _+_, _*_, _%_, _^_, _≤_, _<_}
-use native.Mathlib.Nat.{mod-eq-of-lt}
 use native.Mathlib.Omega.{arith}
 use lib.Count.{ones}
 use lib.Pow.{pow-mono}
+use Rattle.modes.proofs.Digits.{one-shifted}
 use Rattle.branches.specs.Ceiling.{most, upTo}
 use Rattle.branches.proofs.Ceiling.{up-exact, up-over}
 use borrow.Author.Needs.{needs}
@@ -15,7 +15,7 @@ above : (n : ℕ) → 58 < n → most + 1 ≡ upTo (2 ^ n)
 above n h = sym (up-over (2 ^ n) (omega (arith, pow-mono h)))
 
 shifted : (n : ℕ) → n ≤ 58 → (1 * 2 ^ n) % 2 ^ 64 ≡ upTo (2 ^ n)
-shifted n h = let p = pow-mono h in mod-eq-of-lt (omega arith) ∙ let e : 1 * 2 ^ n ≡ 2 ^ n = omega arith in e ∙ sym (up-exact (2 ^ n) (omega arith))
+shifted n h = let p = pow-mono h in one-shifted n (omega arith) ∙ sym (up-exact (2 ^ n) (omega arith))
 
 add-result : tie.Need-add-result
 add-result c = search needs

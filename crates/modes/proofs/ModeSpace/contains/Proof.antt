@@ -1,11 +1,12 @@
 -- `modes::ModeSpace::contains` meets its contract: at 64 modes or more every word of 64 bits is inside.
-use mathlib.Core.Path.{_≡_, sym, ap, _∙_}
-use Prim.Native.Nat.{ℕ, _*_, _%_, _^_, _<_}
-use native.Mathlib.Nat.{lt-of-lt-of-le, one-mul, mod-eq-of-lt}
+use mathlib.Core.Path.{sym, ap}
+use Prim.Native.Nat.{_^_}
+use native.Mathlib.Nat.{lt-of-lt-of-le}
 use lib.Dec.{ltb}
-use lib.Pow.{pow-mono, pow-lt}
+use lib.Pow.{pow-mono}
 use borrow.Author.Needs.{needs}
 use borrow.Author.Tests.{lt-ltb}
+use Rattle.modes.proofs.Digits.{one-shifted}
 use Rattle.modes.proofs.ModeSpace.contains.Statement.{statement}
 use Rattle.modes.proofs.ModeSpace.contains.Tie as tie
 use Rattle.modes.proofs.ModeSpace.contains.Reads as reads
@@ -21,10 +22,8 @@ shl-result c = search needs
 
 returns-2 : tie.Need-returns-2
 returns-2 c =
-    let m = c .before .before .before .args .self .count in
-    let small : 2 ^ m < 2 ^ 64 = pow-lt (c .before .if1 .left) in
-    let e : (1 * 2 ^ m) % 2 ^ 64 ≡ 2 ^ m = ap (λ (x : ℕ). x % 2 ^ 64) (one-mul (2 ^ m)) ∙ mod-eq-of-lt small in
-    ap (ltb (c .before .before .before .args .word)) e
+    let a = c .before .before .before .args in
+    ap (ltb (a .word)) (one-shifted (a .self .count) (c .before .if1 .left))
 
 pub contains-spec : {M : Type 1} → statement M
 contains-spec = tie.close (tie.spec returns shl-result returns-2)
