@@ -12,7 +12,7 @@
 #include <string.h>
 #include <time.h>
 
-enum { TERMS = 2048, RECORD = 32 + 24 * TERMS, WORK = 1 << 24, MOST_LIBRARIES = 16, TURNS = 17 };
+enum { TERMS = 2048, RECORD = 32 + 24 * TERMS, WORK = 1 << 24, MOST_LIBRARIES = 32, TURNS = 17 };
 enum { BATCH = 512, IN_TURN = 16 * TERMS }; /* the most records of a batch, and the terms of all of them */
 
 #define CALLS(X)                                                                                                            \
@@ -195,6 +195,13 @@ static void run_apply(void)
         lib->apply(words[0][i], words[1][i], ket, answer);
     answer[0] = 0; /* that a term gives Zero is no refusal */
 }
+static uint64_t kets[1000];
+static void run_apply_each(void)
+{
+    for (int i = 0; i < 1000; i++)
+        lib->apply(words[0][i], words[1][i], kets[i], answer);
+    answer[0] = 0;
+}
 static void run_mul_cmpnts(void) { lib->mul_cmpnts(bra, ket, ket, bra, work, work_len, answer); }
 static void run_check(void) { lib->check(one, one_len, answer); }
 static void run_add(void) { lib->add(one, one_len, two, two_len, out, RECORD, answer); }
@@ -361,6 +368,18 @@ static void read_one(const char *on)
     line("mat_ortho_projected", on, run_matrix, 1);
 }
 
+/* Terms of two-body records on kets that they act on, then on the empty word and on the full one, which block nearly all. */
+static void apply_each(void)
+{
+    for (int i = 0; i < 1000; i++)
+        kets[i] = (ket | words[1][i]) & ~(words[0][i] & ~words[1][i]);
+    line("apply", "two-body terms, 64 modes, that act", run_apply_each, 1000);
+    memset(kets, 0, sizeof kets);
+    line("apply", "two-body terms, 64 modes, a mode is missing", run_apply_each, 1000);
+    memset(kets, 255, sizeof kets);
+    line("apply", "two-body terms, 64 modes, a mode is occupied", run_apply_each, 1000);
+}
+
 static void merge_two(const char *on)
 {
     line("compare", on, run_compare, 1);
@@ -399,6 +418,7 @@ int main(int argc, char **argv)
         basis[i] = UINT64_C(0x5555555555555555) ^ UINT64_C(3) << 2 * i;
     one_len = two_body(one, 64, TERMS);
     read_one("2,048 two-body terms, 64 modes");
+    apply_each();
     memcpy(two, one, two_len = one_len);
     merge_two("2,048 two-body terms each, alike");
     one_len = two_body(one, 64, 1024), two_len = two_body(two, 64, 1024);

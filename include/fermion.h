@@ -75,12 +75,18 @@ enum fermion_refusal {
     FERMION_BAD_REPORT = 15          /* the report counts 1,024 records, or one of its numbers is above its limit */
 };
 
+/* answer[6] of fermion_apply where a term gives Zero; answer[7] is the lowest such mode. */
+enum fermion_blocked {
+    FERMION_MISSING = 1, /* an annihilated mode is missing from the ket */
+    FERMION_OCCUPIED = 2 /* none is missing, and a created mode is still occupied once the annihilated ones are removed */
+};
+
 #ifdef __cplusplus
 extern "C" {
 #endif
 
-/* One term {cre|ann} on one occupation word. [5] 1 applied, 0 Zero; [6] the new word and [7] 1 where the sign is
- * minus, both 0 for Zero. Refusals: none. */
+/* One term {cre|ann} on one occupation word. [5] 1 applied: [6] the new word, [7] 1 where the sign is minus. [5] 0
+ * Zero: [6] what blocked it (enum fermion_blocked), [7] the mode. Refusals: none. */
 void fermion_apply(uint64_t cre, uint64_t ann, uint64_t ket, uint64_t answer[8]);
 
 /* The rows of one product L R, FERMION_ROW bytes each: annihilation word, creation word, coefficient (1 or -1).

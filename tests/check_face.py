@@ -5,12 +5,13 @@ import rule
 from calls import run
 
 SEED = 20261115
+TOLD = {None: "applied", rule.MISSING: "Zero, a mode is missing", rule.OCCUPIED: "Zero, a mode is occupied"}
 
 
 def terms_and_kets(rng):
-    """Every term and ket on 2 modes; then terms on 1 to 64 modes, most of them on a ket that they act on."""
-    for code in range(64):
-        yield code & 3, code >> 2 & 3, code >> 4
+    """Every term and ket on 4 modes; then terms on 1 to 64 modes, most of them on a ket that they act on."""
+    for code in range(4096):
+        yield code & 15, code >> 4 & 15, code >> 8
     for _ in range(10000):
         m = rng.randint(1, 64)
         cre, ann, ket = (face.word(rng, m, rng.choice((0.1, 0.3, 0.6))) for _ in range(3))
@@ -19,10 +20,39 @@ def terms_and_kets(rng):
         yield cre, ann, ket
 
 
+def blocked_at(rng, reason, modes):
+    """A term and a ket on 64 modes that are blocked for this reason, by these modes and no others."""
+    cre, ann, ket = (face.word(rng, 64, rng.choice((0.1, 0.3, 0.6))) for _ in range(3))
+    if reason == rule.MISSING:  # some created modes may be occupied besides
+        ann |= modes
+        return cre, ann, (ket | ann) & ~modes
+    cre, ann = cre | modes, ann & ~modes
+    return cre, ann, (ket | ann) & ~(cre & ~ann) | modes
+
+
+def blocking(rng):
+    """Where a term is blocked, in words, and the modes that block it: one, or one and some above it."""
+    for lowest, place in ((0, "mode 0"), (63, "mode 63"), (rng.randrange(1, 63), "a mode between")):
+        yield place, 1 << lowest
+        if lowest < 63:
+            above = face.word(rng, 63 - lowest, rng.choice((0.1, 0.5))) | 1 << rng.randrange(63 - lowest)
+            yield place + " and others above it", 1 << lowest | above << lowest + 1
+
+
 def check_apply(calls):
     for words in terms_and_kets(calls.rng):
-        test = "fermion_apply, " + ("applied" if rule.apply_term(*words) else "Zero")
-        calls.judge(test, "apply", *words)
+        reason, _ = rule.blocked(*words) or (None, None)
+        calls.judge("fermion_apply, " + TOLD[reason], "apply", *words)
 
 
-run(SEED, (check_apply,))
+def check_blocked(calls):
+    for _ in range(1000):
+        for reason in (rule.MISSING, rule.OCCUPIED):
+            for place, modes in blocking(calls.rng):
+                words = blocked_at(calls.rng, reason, modes)
+                expected = calls.judge(f"fermion_apply, {TOLD[reason]}: {place}", "apply", *words)
+                made_for = [0] * 6 + [reason, rule.bits(modes)[0]]
+                assert expected.numbers == made_for, "an input that is not what it was made for"
+
+
+run(SEED, (check_apply, check_blocked))

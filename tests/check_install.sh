@@ -144,7 +144,7 @@ refusals_by_number() { # in the order of docs/RECORD.md's table
         echo "typedef char is_${name}[FERMION_$name == $((number++)) ? 1 : -1];" >>numbers.c
     done
     gcc -std=c99 "-I$there/include" -c numbers.c -o numbers.o || return
-    same "$(grep -cE '^    FERMION_[A-Z_]+ = [0-9]+' "$there/include/fermion.h")" 16
+    same "$(sed -n '/^enum fermion_refusal/,/^}/p' "$there/include/fermion.h" | grep -cE '^    FERMION_[A-Z_]+ = [0-9]+')" 16
 }
 
 documented_line() { # as the example and docs/INSTALL.md have it

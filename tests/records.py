@@ -152,7 +152,7 @@ def of_one(record, value):
 
 def apply(cre, ann, ket):
     outcome = rule.apply_term(cre, ann, ket)
-    return given(1, outcome[0], outcome[1] < 0) if outcome else given()
+    return given(1, outcome[0], outcome[1] < 0) if outcome else given(0, *rule.blocked(cre, ann, ket))
 
 
 def row_count(left, right):

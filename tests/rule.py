@@ -48,6 +48,23 @@ def apply_term(cre, ann, ket):
     return word, sign
 
 
+MISSING, OCCUPIED = 1, 2
+
+
+def blocked(cre, ann, ket):
+    """Why a term gives Zero on a ket, with a mode; None where it doesn't.
+
+    MISSING with the lowest annihilated mode missing from the ket; if none is missing, OCCUPIED with the
+    lowest created mode still occupied once the annihilated ones are removed.
+    """
+    missing = [p for p in bits(ann) if ladder(0, p, ket) is None]
+    if missing:
+        return MISSING, missing[0]
+    removed, _ = apply_term(0, ann, ket)
+    occupied = [p for p in bits(cre) if ladder(1, p, removed) is None]
+    return (OCCUPIED, occupied[0]) if occupied else None
+
+
 def count_before_each_set_bit(word, at):
     """For each mode of `at`, the modes of `word` below it; all added up."""
     return sum(q < p for p in bits(at) for q in bits(word))
@@ -164,6 +181,16 @@ def check_cases():
     assert apply_term(1, 1, 1) == (1, 1)
     assert apply_term(2**63, 0, 2**63 - 1) == (2**64 - 1, -1)
     assert apply_term(0, 3, 3) == (0, -1) and apply_term(3, 0, 0) == (3, 1)
+    assert blocked(0, 4, 3) == (MISSING, 2) and blocked(1, 0, 1) == (OCCUPIED, 0)
+
+
+def check_blocked(m):
+    """On m modes a term is blocked exactly where its ladders, one after the other, give Zero."""
+    words = range(1 << m)
+    inputs = [(cre, ann, ket) for cre in words for ann in words for ket in words]
+    for words in inputs:
+        assert (blocked(*words) is None) == (apply_term(*words) is not None), words
+    return len(inputs)
 
 
 def check_products(m):
@@ -190,5 +217,6 @@ def check_products(m):
 if __name__ == "__main__":
     check_cases()
     print("the specification's cases 1 to 13: as written there")
+    print(f"terms on kets of 4 modes: {check_blocked(4)} blocked exactly where they give Zero")
     for m in (1, 2, 3):
         print(f"products on {m} modes: {check_products(m)} pairs act as R then L on every word")

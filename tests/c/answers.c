@@ -11,10 +11,24 @@ static struct answer values(uint64_t x, uint64_t y, uint64_t z)
     return (struct answer){{0, 0, 0, 0, 0, x, y, z}};
 }
 
+/* 1 and the lowest annihilated mode missing from the ket; if none is missing, 2 and the lowest created mode that is still
+ * occupied once the annihilated ones are removed */
+static struct answer blocked(uint64_t cre, uint64_t ann, uint64_t ket)
+{
+    for (unsigned p = 0; p < 64; p++)
+        if (occupied(ann, p) && !occupied(ket, p))
+            return values(0, 1, p);
+    for (unsigned p = 0; p < 64; p++)
+        if (occupied(cre, p) && occupied(ket, p) && !occupied(ann, p))
+            return values(0, 2, p);
+    fprintf(stderr, "the plain side: a term that gives nothing, and no mode that blocks it\n");
+    abort();
+}
+
 struct answer plain_apply(uint64_t cre, uint64_t ann, uint64_t ket)
 {
     struct outcome o = apply(cre, ann, ket);
-    return o.applied ? values(1, o.word, o.minus) : values(0, 0, 0);
+    return o.applied ? values(1, o.word, o.minus) : blocked(cre, ann, ket);
 }
 
 /* the lowest mode in which two rows differ is the most significant choice, and low rank comes first */

@@ -1,5 +1,4 @@
-/* Every function but `fermion_apply` on the specification's example or on a few terms, with answers that are worked out
- * by hand. */
+/* Every function on the specification's example or on a few terms, with answers that are worked out by hand. */
 #include "test.h"
 #include <stdio.h>
 #include <string.h>
@@ -399,6 +398,27 @@ static struct tally check_report(void)
     return t;
 }
 
+/* The specification's cases 9 to 13, with what blocks the two that give Zero; then modes 0 and 63 that are missing or still
+ * occupied, alone and with others above them, and a missing mode above an occupied one. */
+static struct tally check_apply(void)
+{
+    struct tally t = {"fermion_apply", 0, 0};
+    const uint64_t top = UINT64_C(1) << 63, full = UINT64_MAX;
+    const uint64_t calls[][6] = {
+        {0, 0, top, 1, top, 0}, {4, 1, 3, 1, 6, 1},     {0, 4, 3, 0, FERMION_MISSING, 2},  {1, 0, 1, 0, FERMION_OCCUPIED, 0},
+        {1, 1, 1, 1, 1, 0},     {top, 0, top - 1, 1, full, 1}, {0, 3, 3, 1, 0, 1},         {3, 0, 0, 1, 3, 0},
+        {0, full, 0, 0, FERMION_MISSING, 0},            {0, full, top - 1, 0, FERMION_MISSING, 63},
+        {full, 0, full, 0, FERMION_OCCUPIED, 0},        {full, top - 1, full, 0, FERMION_OCCUPIED, 63},
+        {1, top, 1, 0, FERMION_MISSING, 63},            {12, 3, 15, 0, FERMION_OCCUPIED, 2},
+    };
+    for (size_t i = 0; i < sizeof calls / sizeof calls[0]; i++) {
+        struct guarded got = dirty();
+        fermion_apply(calls[i][0], calls[i][1], calls[i][2], got.answer);
+        same_answer(&t, got, answer_of(0, 0, 0, 0, calls[i][3], calls[i][4], calls[i][5]));
+    }
+    return t;
+}
+
 /* {|0} times {0|} is {|} - {0|0}, the lower rank first; a byte less is refused with 7; {|0} times {|0} is nothing */
 static struct tally check_mul_cmpnts(void)
 {
@@ -462,6 +482,7 @@ static struct tally check_mat_elem(const char *name, bool complex)
 void check_examples(int *passed, int *failed)
 {
     struct tally all[] = {
+        check_apply(),
         check_mul_cmpnts(),
         check_test("fermion_check", fermion_check, 2, 2, 2),
         check_add(),

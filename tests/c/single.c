@@ -12,8 +12,8 @@ static void judge_apply(uint64_t cre, uint64_t ann, uint64_t ket)
 
 static void check_apply(void)
 {
-    for (uint64_t code = 0; code < 512; code++) /* all on three modes */
-        judge_apply(code & 7, code >> 3 & 7, code >> 6);
+    for (uint64_t code = 0; code < 4096; code++) /* all on four modes */
+        judge_apply(code & 15, code >> 4 & 15, code >> 8);
     for (long i = 0; i < 5 * CASES; i++) {
         unsigned m = 1 + (unsigned)below(64);
         uint64_t cre = draw_word(m), ann = draw_word(m), ket = draw_word(m);

@@ -22,20 +22,21 @@ from ._ready import hopping, interaction, number
 from ._record import Product, Record
 from ._report import MAX_REPORTED, Report
 from ._types import (
-    SENTENCES, Applied, Branches, Checked, Columns, Comparison, Counted, Reason, Refusal, Share, Term, modes, word,
+    SENTENCES, Applied, Blocked, Branches, Checked, Columns, Comparison, Counted, Reason, Refusal, Share, Term, Zero, modes, word,
 )
 from ._work import MAX_BASIS, MAX_BYTES, MAX_MODES, MAX_TERMS, MAX_WEIGHT, WORK_CEILING
 
 __all__ = [
-    "Applied", "Branches", "Checked", "Columns", "Comparison", "Counted", "FloatTerms", "MAX_BASIS", "MAX_BYTES", "MAX_MODES",
-    "MAX_REPORTED", "MAX_TERMS", "MAX_WEIGHT", "Product", "Readable", "Reason", "Record", "Refusal", "Report", "SENTENCES",
-    "Share", "Term", "WORK_CEILING", "Writable", "__version__", "active_modes", "add", "adjoint", "anticommutator", "apply",
+    "Applied", "Blocked", "Branches", "Checked", "Columns", "Comparison", "Counted", "FloatTerms", "MAX_BASIS", "MAX_BYTES",
+    "MAX_MODES", "MAX_REPORTED", "MAX_TERMS", "MAX_WEIGHT", "Product", "Readable", "Reason", "Record", "Refusal", "Report",
+    "SENTENCES", "Share", "Term", "WORK_CEILING", "Writable", "Zero", "__version__", "active_modes", "add", "adjoint",
+    "anticommutator", "apply",
     "block", "branches", "check", "commutator", "compare", "conserves_particle_number", "element", "hopping", "interaction",
     "is_hermitian", "load", "mat_elem_complex", "mat_elem_real", "mat_ortho_projected", "max_n_body", "modes", "mul",
     "mul_cmpnts", "number", "report_add", "sub", "word",
 ]
 
 # Messages and pickles name the package, not the file in which a class stands.
-for _class in (Applied, Branches, Checked, Columns, Comparison, Counted, FloatTerms, Product, Reason, Record, Refusal, Report,
-               Share, Term):
+for _class in (Applied, Blocked, Branches, Checked, Columns, Comparison, Counted, FloatTerms, Product, Reason, Record, Refusal,
+               Report, Share, Term, Zero):
     _class.__module__ = __name__

@@ -3,28 +3,30 @@ from __future__ import annotations
 
 import ctypes
 import struct
-from typing import Iterable, List, Optional, Sequence, Tuple
+from typing import Iterable, List, Optional, Sequence, Tuple, Union
 
 from ._buffers import Readable, Writable, as_floats, as_parts, as_word, as_words, view_of
 from ._face import call
 from ._matrix import projected, signed
 from ._record import Product, Record
 from ._report import counted
-from ._types import TERM, Applied, Branches, Checked, Comparison, Counted, Term, Whole, parts
+from ._types import TERM, Applied, Blocked, Branches, Checked, Comparison, Counted, Term, Whole, Zero, parts
 from ._work import HEADER, ROW, WORK_CEILING, adjoined, front, multiplied, summed, with_rows
 
 
-def apply(cre: Whole, ann: Whole, ket: Whole) -> Optional[Applied]:
-    """The term {cre|ann} on an occupation word, or None for Zero. Never refused.
+def apply(cre: Whole, ann: Whole, ket: Whole) -> Union[Applied, Zero]:
+    """The term {cre|ann} on an occupation word: the new word and the sign, or Zero, which is false and says why. Never refused.
 
     >>> apply(word(2), word(0), word(0, 1))
     Applied(word=6, sign=-1)
-    >>> apply(word(0), 0, word(0)) is None
-    True
+    >>> apply(0, word(1, 2), word(1))
+    Zero(reason=<Blocked.MISSING: 1>, mode=2)
+    >>> print(apply(word(0), 0, word(0)))
+    mode 0 is still occupied and cannot be created
     """
     words = as_word(cre, "the creation word"), as_word(ann, "the annihilation word"), as_word(ket, "the ket")
-    applied, new, minus = call("apply", *words)[5:]
-    return Applied(new, -1 if minus else 1) if applied else None
+    applied, first, second = call("apply", *words)[5:]
+    return Applied(first, -1 if second else 1) if applied else Zero(Blocked(first), second)
 
 
 def mul_cmpnts(left: Tuple[Whole, Whole], right: Tuple[Whole, Whole], *, out: Optional[Writable] = None,

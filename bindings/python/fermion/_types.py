@@ -2,8 +2,9 @@
 from __future__ import annotations
 
 import operator
+from dataclasses import dataclass
 from enum import IntEnum
-from typing import Any, Iterable, Iterator, NamedTuple, Optional, SupportsIndex, Tuple
+from typing import Any, Iterable, Iterator, Literal, NamedTuple, Optional, SupportsIndex, Tuple
 
 #: A whole number as a caller gives it: an int, or anything else that is one, such as NumPy's.
 Whole = SupportsIndex
@@ -108,6 +109,39 @@ class Applied(NamedTuple):
 
     word: int
     sign: int
+
+
+class Blocked(IntEnum):
+    """Why a term gives nothing on a word, by name.
+
+    MISSING: an annihilated mode is missing from the word. OCCUPIED: none is missing, and a created mode is still occupied
+    once the annihilated ones are removed.
+    """
+
+    MISSING = 1
+    OCCUPIED = 2
+
+
+@dataclass(frozen=True)  # not a tuple, which would equal the Applied that has its two numbers
+class Zero:
+    """A term that gives nothing on a word: why, and the lowest mode that blocks it. It is false, and prints as a sentence.
+
+    >>> print(Zero(Blocked.MISSING, 3))
+    mode 3 is not occupied and cannot be annihilated
+    >>> print(Zero(Blocked.OCCUPIED, 0))
+    mode 0 is still occupied and cannot be created
+    """
+
+    reason: Blocked
+    mode: int
+
+    def __bool__(self) -> Literal[False]:
+        return False
+
+    def __str__(self) -> str:
+        if self.reason == Blocked.MISSING:
+            return f"mode {self.mode} is not occupied and cannot be annihilated"
+        return f"mode {self.mode} is still occupied and cannot be created"
 
 
 class Checked(NamedTuple):

@@ -5,7 +5,7 @@ import unittest
 
 import fermion
 from common import EXAMPLE, ROW, Refused, one, term, told
-from fermion import Applied, Comparison, Record, Term, word
+from fermion import Applied, Blocked, Comparison, Record, Term, Zero, word
 
 
 class Words(unittest.TestCase):
@@ -32,12 +32,30 @@ class OneTerm(unittest.TestCase):
         for ket in (0, 1, 2**63, 2**64 - 1):
             self.assertEqual(apply(0, 0, ket), Applied(ket, 1))
         self.assertEqual(apply(word(2), word(0), 3), Applied(6, -1))
-        self.assertIsNone(apply(0, word(2), 3))
-        self.assertIsNone(apply(word(0), 0, 1))
+        self.assertEqual(apply(0, word(2), 3), Zero(Blocked.MISSING, 2))
+        self.assertEqual(apply(word(0), 0, 1), Zero(Blocked.OCCUPIED, 0))
         self.assertEqual(apply(word(0), word(0), 1), Applied(1, 1))
         self.assertEqual(apply(word(63), 0, 2**63 - 1), Applied(2**64 - 1, -1))
         self.assertEqual(apply(0, word(0, 1), 3), Applied(0, -1))
         self.assertEqual(apply(word(0, 1), 0, 0), Applied(3, 1))
+
+    def test_what_blocks_a_term_is_told_in_a_sentence(self):
+        missing, occupied = fermion.apply(word(0), word(63, 3), word(0)), fermion.apply(word(63, 0), word(0), word(0, 63))
+        self.assertEqual((missing.reason, missing.mode, str(missing)),
+                         (Blocked.MISSING, 3, "mode 3 is not occupied and cannot be annihilated"))
+        self.assertEqual((occupied.reason, occupied.mode, str(occupied)),
+                         (Blocked.OCCUPIED, 63, "mode 63 is still occupied and cannot be created"))
+        self.assertEqual(repr(missing), "Zero(reason=<Blocked.MISSING: 1>, mode=3)")
+        self.assertFalse(missing or occupied)
+        self.assertTrue(fermion.apply(0, 0, 0))
+
+    def test_zero_is_a_value(self):
+        zero = Zero(Blocked.MISSING, 1)
+        self.assertEqual(pickle.loads(pickle.dumps(zero)), zero)
+        self.assertEqual(len({zero, Zero(Blocked.MISSING, 1), Zero(Blocked.OCCUPIED, 1), Zero(Blocked.MISSING, 0)}), 3)
+        self.assertNotEqual(Applied(1, 1), zero)  # though the two numbers are the same
+        with self.assertRaises(AttributeError):
+            zero.mode = 2
 
     def test_cases_1_to_8(self):
         for left, right, rows in [

@@ -26,6 +26,10 @@ def load_tests(loader, tests, pattern):
     return tests
 
 
+def _numbers(enum):
+    return {member.name: member.value for member in enum}
+
+
 class Documents(unittest.TestCase):
     def test_the_sentences_are_those_of_the_table(self):
         section = RECORD.read_text(encoding="utf-8").split("\n## Refusals\n")[1]
@@ -58,9 +62,9 @@ class Documents(unittest.TestCase):
 
     def test_the_names_are_those_of_the_header(self):
         header = HEADER.read_text(encoding="utf-8")
-        listed = re.search(r"enum \w+ \{(.*?)\}", header, re.S).group(1)
-        named = {name: int(number) for name, number in re.findall(r"FERMION_(\w+) = (\d+)", listed)}
-        self.assertEqual(named, {"OK": 0, **{reason.name: reason.value for reason in fermion.Reason}})
+        for enum, members in (("refusal", {"OK": 0, **_numbers(fermion.Reason)}), ("blocked", _numbers(fermion.Blocked))):
+            listed = re.search(rf"enum fermion_{enum} \{{(.*?)\}}", header, re.S).group(1)
+            self.assertEqual({name: int(number) for name, number in re.findall(r"FERMION_(\w+) = (\d+)", listed)}, members)
         constants = dict(re.findall(r"#define FERMION_(\w+) +(.*?) *(?:/\*.*)?$", header, re.M))
         self.assertEqual(constants["VERSION"], f'"{fermion.__version__}"')
         for name, number in [("MAX_MODES", fermion.MAX_MODES), ("MAX_TERMS", fermion.MAX_TERMS), ("MAX_RECORD", fermion.MAX_BYTES),
@@ -73,7 +77,7 @@ class Documents(unittest.TestCase):
     def test_the_names_are_those_of_the_document(self):
         listed = re.search(r"members of `Reason`:\n(.*?)\n\n", RECORD.read_text(encoding="utf-8"), re.S).group(1)
         named = {name: int(number) for number, name in re.findall(r"(\d+) `(\w+)`", listed)}
-        self.assertEqual(named, {reason.name: reason.value for reason in fermion.Reason})
+        self.assertEqual(named, _numbers(fermion.Reason))
 
     def test_all_names_are_there(self):
         self.assertEqual(sorted(fermion.__all__), sorted(set(fermion.__all__)))

@@ -94,7 +94,8 @@ class Drawn(unittest.TestCase):
             m = self.rng.randint(1, 64)
             (ann, cre), (_, ket) = draws.term(self.rng, m, "few"), draws.term(self.rng, m, "dense")
             ket = (ket | ann) & ~(cre & ~ann) if self.rng.random() < 0.8 else ket
-            self.assertEqual(fermion.apply(cre, ann, ket), rule.apply_term(cre, ann, ket))
+            acts, blocked = rule.apply_term(cre, ann, ket), rule.blocked(cre, ann, ket)
+            self.assertEqual(fermion.apply(cre, ann, ket), fermion.Applied(*acts) if acts else fermion.Zero(*blocked))
 
     def test_one_product(self):
         for _ in range(CASES):

@@ -1,3 +1,5 @@
+use std::fmt;
+
 use crate::face::{self, List, Multiplies, Reads, Sums};
 use crate::record::HEADER;
 use crate::{Counted, Reason, Record, Refusal, Rows, Term, MAX_BYTES, MAX_MODES, MAX_TERMS, REPORT, ROW};
@@ -20,8 +22,49 @@ pub enum Outcome {
         /// 1 or -1.
         sign: i64,
     },
-    /// It gives nothing.
-    Zero,
+    /// It gives nothing, because of this.
+    Zero(Blocked),
+}
+
+/// What blocks a term that gives nothing on an occupation word. It prints as a sentence.
+///
+/// ```
+/// use fermion::{apply, word, Blocked, Outcome};
+/// let Outcome::Zero(blocked) = apply(0, word(&[3, 5]), word(&[5])) else { panic!() };
+/// assert_eq!((blocked, blocked.mode()), (Blocked::Missing { mode: 3 }, 3));
+/// assert_eq!(blocked.to_string(), "mode 3 is not occupied and cannot be annihilated");
+/// assert_eq!(Blocked::Occupied { mode: 0 }.to_string(), "mode 0 is still occupied and cannot be created");
+/// ```
+#[derive(Clone, Copy, Debug, PartialEq, Eq, Hash)]
+pub enum Blocked {
+    /// An annihilated mode is missing from the word.
+    Missing {
+        /// The lowest such mode.
+        mode: u32,
+    },
+    /// No annihilated mode is missing, and a created mode is still occupied once the annihilated ones are removed.
+    Occupied {
+        /// The lowest such mode.
+        mode: u32,
+    },
+}
+
+impl Blocked {
+    /// The mode that blocks the term, from 0 to 63.
+    pub const fn mode(self) -> u32 {
+        match self {
+            Blocked::Missing { mode } | Blocked::Occupied { mode } => mode,
+        }
+    }
+}
+
+impl fmt::Display for Blocked {
+    fn fmt(&self, f: &mut fmt::Formatter<'_>) -> fmt::Result {
+        match self {
+            Blocked::Missing { mode } => write!(f, "mode {mode} is not occupied and cannot be annihilated"),
+            Blocked::Occupied { mode } => write!(f, "mode {mode} is still occupied and cannot be created"),
+        }
+    }
 }
 
 /// What the check of a record found.
@@ -92,13 +135,14 @@ pub enum Comparison {
 /// The term {cre|ann} on an occupation word.
 ///
 /// ```
-/// use fermion::{apply, word, Outcome};
+/// use fermion::{apply, word, Blocked, Outcome};
 /// assert_eq!(apply(word(&[2]), word(&[0]), word(&[0, 1])), Outcome::Applied { word: 6, sign: -1 });
-/// assert_eq!(apply(word(&[0]), 0, word(&[0])), Outcome::Zero);
+/// assert_eq!(apply(word(&[0]), 0, word(&[0])), Outcome::Zero(Blocked::Occupied { mode: 0 }));
 /// ```
 pub fn apply(cre: u64, ann: u64, ket: u64) -> Outcome {
     match face::apply(cre, ann, ket) {
-        [.., 0, _, _] => Outcome::Zero,
+        [.., 0, 1, mode] => Outcome::Zero(Blocked::Missing { mode: mode as u32 }),
+        [.., 0, _, mode] => Outcome::Zero(Blocked::Occupied { mode: mode as u32 }),
         [.., word, minus] => Outcome::Applied { word, sign: if minus == 0 { 1 } else { -1 } },
     }
 }

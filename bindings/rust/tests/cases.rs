@@ -2,7 +2,7 @@
 mod common;
 
 use common::{one, refusal, EXAMPLE};
-use fermion::{apply, word, Branches, Checked, Comparison, Outcome, Record, Refusal, Report, Term};
+use fermion::{apply, word, Blocked, Branches, Checked, Comparison, Outcome, Record, Refusal, Report, Term};
 
 fn applied(word: u64, sign: i64) -> Outcome {
     Outcome::Applied { word, sign }
@@ -38,12 +38,22 @@ fn cases_9_to_13() {
         assert_eq!(apply(0, 0, ket), applied(ket, 1));
     }
     assert_eq!(apply(word(&[2]), word(&[0]), 3), applied(6, -1));
-    assert_eq!(apply(0, word(&[2]), 3), Outcome::Zero);
-    assert_eq!(apply(word(&[0]), 0, 1), Outcome::Zero);
+    assert_eq!(apply(0, word(&[2]), 3), Outcome::Zero(Blocked::Missing { mode: 2 }));
+    assert_eq!(apply(word(&[0]), 0, 1), Outcome::Zero(Blocked::Occupied { mode: 0 }));
     assert_eq!(apply(word(&[0]), word(&[0]), 1), applied(1, 1));
     assert_eq!(apply(word(&[63]), 0, u64::MAX >> 1), applied(u64::MAX, -1));
     assert_eq!(apply(0, word(&[0, 1]), 3), applied(0, -1));
     assert_eq!(apply(word(&[0, 1]), 0, 0), applied(3, 1));
+}
+
+#[test]
+fn what_blocks_a_term_is_told_in_a_sentence() {
+    let told = |cre: &[u32], ann: &[u32], ket: &[u32]| match apply(word(cre), word(ann), word(ket)) {
+        Outcome::Zero(blocked) => (blocked.mode(), blocked.to_string()),
+        other => panic!("{other:?}"),
+    };
+    assert_eq!(told(&[0], &[63, 3], &[0]), (3, "mode 3 is not occupied and cannot be annihilated".into()));
+    assert_eq!(told(&[63, 0], &[0], &[0, 63]), (63, "mode 63 is still occupied and cannot be created".into()));
 }
 
 #[test]

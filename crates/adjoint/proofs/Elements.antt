@@ -1,5 +1,5 @@
 -- The elements of the adjoint are those of the operator with bra and ket exchanged.
-use mathlib.Core.Path.{_≡_, refl, sym, ap, ap₂, _∙_}
+use mathlib.Core.Path.{_≡_, refl, sym, ap, _∙_}
 use mathlib.Core.Bool.{Bool, true, false, cond}
 use mathlib.Core.List.{List, map}
 use Prim.Native.Nat.{ℕ, _+_}
@@ -11,7 +11,6 @@ use Rattle.modes.specs.Bools.{_⊕_}
 use Rattle.modes.specs.Words.{bit}
 use Rattle.modes.specs.Counts.{parity, count, pairs}
 use Rattle.modes.specs.declared.Term.{Term}
-use Rattle.modes.specs.declared.Sign.{Sign}
 use Rattle.modes.specs.Every.{Every}
 use Rattle.modes.proofs.Every.{every-implies, sum-same}
 use Rattle.modes.proofs.Sums.{sum-map}
@@ -19,28 +18,23 @@ use Rattle.lent.specs.Rows.{Fit}
 use Rattle.products.specs.PhaseRule.{Outcome, gone, went, term}
 use Rattle.products.specs.Operators.{signed, adds, part, element}
 use Rattle.products.specs.Apply.{applyResultOf}
-use Rattle.products.specs.declared.ApplyResult.the-variants.{Applied}
 use Rattle.products.proofs.Applying.{swapped-restores}
+use Rattle.products.proofs.Outcomes.{went-where-applied}
 use Rattle.normal.proofs.Totals.{element-normal}
 use Rattle.adjoint.specs.Adjoint.{oddPairs, adjointTerm, adjointTerms}
 
 -- ---- the swapped term restores the ket
 
-outcome-of : (o : Outcome) (w : ℕ) (s : Sign) → applyResultOf o ≡ Applied w s → o ≡ went w (s .0)
-outcome-of gone w s e = let z : _≡_ {A = ℕ} 0 1 = cc in absurd (omega arith)
-outcome-of (went v r) w s e =
-    let x : v ≡ w = cc in let y : record { 0 = r } ≡ s = cc in ap₂ went x (ap (λ (q : Sign). q .0) y)
-
 back : (t : Term) → Fit t → (ket w : ℕ) (s : Bool) → term (t .cre) (t .ann) (went ket false) ≡ went w s
     → term (t .ann) (t .cre) (went w false) ≡ went ket (s ⊕ oddPairs t)
 unfolding oddPairs
 back t f ket w s e =
-    outcome-of _ ket _ (swapped-restores (t .cre) (t .ann) ket (f .cre) (f .ann) w (record { 0 = s }) (ap applyResultOf e))
+    went-where-applied (t .ann) (t .cre) w ket _ (swapped-restores (t .cre) (t .ann) ket (f .cre) (f .ann) w (record { 0 = s }) (ap (applyResultOf _) e))
 
 back-adjoint : (t : Term) → Fit t → (ket w : ℕ) (s : Bool) → term (t .ann) (t .cre) (went ket false) ≡ went w s
     → term (t .cre) (t .ann) (went w false) ≡ went ket (s ⊕ parity (pairs (count 64 (bit (t .ann))) + pairs (count 64 (bit (t .cre)))))
 back-adjoint t f ket w s e =
-    outcome-of _ ket _ (swapped-restores (t .ann) (t .cre) ket (f .ann) (f .cre) w (record { 0 = s }) (ap applyResultOf e))
+    went-where-applied (t .cre) (t .ann) w ket _ (swapped-restores (t .ann) (t .cre) ket (f .ann) (f .cre) w (record { 0 = s }) (ap (applyResultOf _) e))
 
 -- ---- one term
 

@@ -5,6 +5,7 @@ use libc::STDIN_FILENO;
 use libc::STDOUT_FILENO;
 use modes::Sign;
 use products::ApplyResult;
+use products::Blocked;
 
 // How many answers were compared, how many differ, and which was the first to, counted from 1.
 struct Tally {
@@ -89,7 +90,18 @@ fn is(sign: Sign, minus: u64) -> bool {
 fn applies(cre: u64, ann: u64, ket: u64, outcome: u64, word: u64, minus: u64) -> bool {
     match products::apply_op_ket_u64(cre, ann, ket) {
         ApplyResult::Applied(w, s) => outcome == 1 && w == word && is(s, minus),
-        ApplyResult::Zero => outcome == 0,
+        ApplyResult::Zero(_) => outcome == 0,
+    }
+}
+
+// Is {cre|ann} on ket blocked by this mode, which is missing (reason 1) or still occupied (reason 2)?
+fn is_blocked(cre: u64, ann: u64, ket: u64, reason: u64, mode: u64) -> bool {
+    match products::apply_op_ket_u64(cre, ann, ket) {
+        ApplyResult::Applied(_, _) => false,
+        ApplyResult::Zero(blocked) => match blocked {
+            Blocked::Missing(p) => reason == 1 && p == mode,
+            Blocked::Occupied(p) => reason == 2 && p == mode,
+        },
     }
 }
 
@@ -153,8 +165,8 @@ fn numbered_words() -> Tally {
         .with(applies(0, 0, 5, 1, 5, 0))
         .with(applies(0, 0, u64::MAX, 1, u64::MAX, 0));
     let ten = nine.with(applies(4, 1, 3, 1, 6, 1));
-    let eleven = ten.with(applies(0, 4, 3, 0, 0, 0))
-        .with(applies(1, 0, 1, 0, 0, 0))
+    let eleven = ten.with(is_blocked(0, 4, 3, 1, 2))
+        .with(is_blocked(1, 0, 1, 2, 0))
         .with(applies(1, 1, 1, 1, 1, 0));
     let top: u64 = 0x8000_0000_0000_0000;
     let twelve = eleven.with(applies(top, 0, top - 1, 1, u64::MAX, 1));

@@ -3,12 +3,12 @@ use mathlib.Core.Path.{refl, ap}
 use mathlib.Core.Bool.{false}
 use Rattle.modes.specs.Refusals.{unless, orElse}
 use Rattle.modes.specs.Bools.{_⊕_}
-use Rattle.modes.specs.Words.{bit, each}
+use Rattle.modes.specs.Words.{bit, each, lowestMode}
 use Rattle.modes.specs.Counts.{count, odd, oddExchanges}
 use Rattle.modes.specs.Sums.{sumOf}
 use Rattle.lent.specs.Bytes.{bytes, num, numAt}
 use Rattle.products.specs.PhaseRule.{went, term, ladders, ladder}
-use Rattle.products.specs.Apply.{applyResultOf}
+use Rattle.products.specs.Apply.{blockedBy, applyResultOf}
 use Rattle.products.specs.Product.{choices, rowsTimes}
 use Rattle.products.proofs.ClosedForm.{term-none}
 use Rattle.record.specs.Numbers.{stored, numbers, sameNumbers}
@@ -26,7 +26,7 @@ use Rattle.fermion.specs.Cases.{cases, AllHold}
 pub cases-hold : AllHold cases
 unfolding unless term ladders ladder bit odd oddExchanges each choices rowsTimes _⊕_ count sumOf bytes num numAt stored numbers sameNumbers before weight header column
     columns together termsIn laidOut orElse inside termRefusal termsRefusal refusalOf join insert collect dropZeros resultRefusal pairRows allBranches weightRefusal
-    workRefusal example
+    workRefusal example lowestMode blockedBy
 cases-hold = (
   refl,
   (
@@ -44,7 +44,7 @@ cases-hold = (
               (
                 refl,
                 (
-                  (λ ket. ap applyResultOf (term-none (went ket false))),
+                  (λ ket. ap (applyResultOf (blockedBy 0 0 ket)) (term-none (went ket false))),
                   (refl, (refl, (refl, (refl, (refl, (refl, (refl, (refl, (refl, (refl, (refl, (refl, (refl, tt))))))))))))),
                 ),
               ),

@@ -11,6 +11,7 @@ use Rattle.lent.specs.Outputs.{Output, refusedOutput, filledOutput}
 use Rattle.products.specs.Apply.{applied}
 use Rattle.products.specs.Operators.{element}
 use Rattle.products.specs.Product.{rowsTimes}
+use Rattle.products.specs.declared.Blocked.the-variants.{Missing, Occupied}
 use Rattle.products.specs.declared.ApplyResult.{ApplyResult}
 use Rattle.products.specs.declared.ApplyResult.the-variants.{Applied, Zero}
 use Rattle.record.specs.Example.{example}
@@ -77,8 +78,8 @@ cases =
     ∷ (8 ▸ product 0 3 3 0 (row 0 0 minus-one ∷ row 2 2 one ∷ row 1 1 one ∷ row 3 3 one ∷ []))
     ∷ (9 ▸ keeps 0 0)
     ∷ (10 ▸ gives 4 1 3 (minus 6))
-    ∷ (11 ▸ gives 0 4 3 Zero)
-    ∷ (11 ▸ gives 1 0 1 Zero)
+    ∷ (11 ▸ gives 0 4 3 (Zero (Missing 2)))
+    ∷ (11 ▸ gives 1 0 1 (Zero (Occupied 0)))
     ∷ (11 ▸ gives 1 1 1 (plus 1))
     ∷ (12 ▸ gives (2 ^ 63) 0 (2 ^ 63 - 1) (minus (2 ^ 64 - 1)))
     ∷ (13 ▸ gives 0 3 3 (minus 0))

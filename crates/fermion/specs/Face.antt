@@ -13,6 +13,7 @@ use Rattle.modes.specs.declared.Refusal.{Refusal}
 use Rattle.modes.specs.declared.Written.{Written}
 use Rattle.lent.specs.Bytes.{zeros}
 use Rattle.lent.specs.Outputs.{Output}
+use Rattle.products.specs.declared.Blocked.the-variants.{Missing, Occupied}
 use Rattle.products.specs.declared.ApplyResult.{ApplyResult}
 use Rattle.products.specs.declared.ApplyResult.the-variants.{Applied, Zero}
 use Rattle.record.specs.declared.Checked.{Checked}
@@ -37,10 +38,11 @@ answered r x y z = r .number ∷ r .operand ∷ r .place ∷ 0 ∷ 0 ∷ x ∷ y
 abbrev pub values : ℕ → ℕ → ℕ → List ℕ
 values = answered none
 
--- applied: 1, the new word, and 1 where the sign is minus; Zero: nothing but zeros
+-- applied: 1, the new word, and 1 where the sign is minus; Zero: 0, then 1 and the mode that is missing, or 2 and the one still occupied
 abbrev pub applyAnswer : ApplyResult → List ℕ
 applyAnswer (Applied w s) = values 1 w (cond (s .0) 1 0)
-applyAnswer Zero = values 0 0 0
+applyAnswer (Zero (Missing p)) = values 0 1 p
+applyAnswer (Zero (Occupied p)) = values 0 2 p
 
 -- the check: modes, terms and weight
 abbrev pub checkedAnswer : Checked → List ℕ

@@ -27,6 +27,7 @@ use mat_elem::Projected;
 use modes::Refusal;
 use modes::Written;
 use products::ApplyResult;
+use products::Blocked;
 use record::Tested;
 
 // 1 for true
@@ -81,9 +82,14 @@ pub extern "C" fn fermion_apply(cre: u64, ann: u64, ket: u64, answer: &mut [u64;
             let minus = flag(sign.0);
             *answer = [0, 0, 0, 0, 0, 1, word, minus];
         }
-        ApplyResult::Zero => {
-            *answer = [0, 0, 0, 0, 0, 0, 0, 0];
-        }
+        ApplyResult::Zero(blocked) => match blocked {
+            Blocked::Missing(mode) => {
+                *answer = [0, 0, 0, 0, 0, 0, 1, mode];
+            }
+            Blocked::Occupied(mode) => {
+                *answer = [0, 0, 0, 0, 0, 0, 2, mode];
+            }
+        },
     }
 }
 

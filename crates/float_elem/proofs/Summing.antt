@@ -10,10 +10,11 @@ use lib.Ieee.{Float, nan, add, binary64}
 use borrow.Author.Tests.{eq-eqb, ne-eqb}
 use Rattle.modes.specs.Answers.{refusal, none}
 use Rattle.modes.specs.declared.Sign.{Sign}
-use Rattle.products.specs.PhaseRule.{Outcome, went, term}
+use Rattle.products.specs.PhaseRule.{went}
 use Rattle.products.specs.Apply.{applied}
+use Rattle.products.specs.declared.Blocked.{Blocked}
 use Rattle.products.specs.declared.ApplyResult.the-variants.{Applied, Zero}
-use Rattle.products.proofs.Outcomes.{outcome-gone, outcome-went}
+use Rattle.products.proofs.Outcomes.{went-where-applied, gone-where-zero}
 use Rattle.modes.specs.Refusals.{firstRefusal, need, unless}
 use Rattle.modes.proofs.FirstRefusals.{first-starts, first-goes, first-stays}
 use Rattle.float_elem.specs.declared.Complex64.{Complex64}
@@ -24,15 +25,12 @@ use Rattle.float_elem.specs.Elements.{allFinite, sumAt, sumRefusal, summ
 -- ---- one term and one part
 
 module _ (bra ket cre ann : ℕ) where
-  abbrev outcome : Outcome
-  outcome = term cre ann (went ket false)
-
   module _ (c x : Float) where
-    zero : Zero ≡ applied cre ann ket → x ≡ joined bra ket cre ann c x
-    zero e = sym (ap (addedFloat bra c x) (outcome-gone outcome e))
+    zero : {b : Blocked} → Zero b ≡ applied cre ann ket → x ≡ joined bra ket cre ann c x
+    zero e = sym (ap (addedFloat bra c x) (gone-where-zero cre ann ket (sym e)))
 
     there : (word : ℕ) (sign : Sign) → Applied word sign ≡ applied cre ann ket → joined bra ket cre ann c x ≡ addedFloat bra c x (went word (sign .0))
-    there word sign e = ap (addedFloat bra c x) (outcome-went word sign outcome e)
+    there word sign e = ap (addedFloat bra c x) (went-where-applied cre ann ket word sign (sym e))
 
     other : (word : ℕ) (sign : Sign) → Applied word sign ≡ applied cre ann ket → (word ≡ bra → ⊥) → x ≡ joined bra ket cre ann c x
     other word sign e n = sym (there word sign e ∙ rw (ne-eqb word bra n))
@@ -46,7 +44,7 @@ module _ (bra ket cre ann : ℕ) where
     abbrev Both : Float → Float → Type 0
     Both y z = (y ≡ joined bra ket cre ann (c .re) (x .re)) × (z ≡ joined bra ket cre ann (c .im) (x .im))
 
-    pub joined-zero : Zero ≡ applied cre ann ket → Both (x .re) (x .im)
+    pub joined-zero : {b : Blocked} → Zero b ≡ applied cre ann ket → Both (x .re) (x .im)
     joined-zero e = (zero (c .re) (x .re) e, zero (c .im) (x .im) e)
 
     module _ (word : ℕ) (sign : Sign) (e : Applied word sign ≡ applied cre ann ket) where

@@ -1,6 +1,5 @@
 -- A sum over the terms of a record, term by term: what is summed and what is left make the element, within the weight.
 use mathlib.Core.Path.{_≡_, sym, ap, _∙_, subst}
-use mathlib.Core.Bool.{false}
 use mathlib.Core.List.{List, []}
 use Prim.Native.Nat.{ℕ, _+_, _^_, _≤_, _<_}
 use native.Mathlib.Nat.{zero-add}
@@ -11,11 +10,12 @@ use borrow.Author.Tests.{eq-eqb, ne-eqb}
 use Rattle.modes.specs.Sums.{sumOf}
 use Rattle.modes.specs.declared.Term.{Term}
 use Rattle.modes.specs.declared.Sign.{Sign}
-use Rattle.products.specs.PhaseRule.{Outcome, went, term}
+use Rattle.products.specs.PhaseRule.{went}
 use Rattle.products.specs.Operators.{signed, adds, part, element}
 use Rattle.products.specs.Apply.{applied}
+use Rattle.products.specs.declared.Blocked.{Blocked}
 use Rattle.products.specs.declared.ApplyResult.the-variants.{Applied, Zero}
-use Rattle.products.proofs.Outcomes.{outcome-gone, outcome-went}
+use Rattle.products.proofs.Outcomes.{went-where-applied, gone-where-zero}
 use Rattle.record.specs.Terms.{weight}
 use Rattle.record.specs.Reading.{At}
 use Rattle.integers.proofs.SignedNumbers.{abs-sum}
@@ -23,15 +23,12 @@ use Rattle.integers.proofs.SignedNumbers.{abs-sum}
 -- ---- one term
 
 module _ (bra ket : ℕ) (t : Term) where
-  abbrev outcome : Outcome
-  outcome = term (t .cre) (t .ann) (went ket false)
-
-  pub part-zero : Zero ≡ applied (t .cre) (t .ann) ket → pos 0 ≡ part bra ket t
-  part-zero e = sym (ap (adds bra (t .coeff)) (outcome-gone outcome e))
+  pub part-zero : {b : Blocked} → Zero b ≡ applied (t .cre) (t .ann) ket → pos 0 ≡ part bra ket t
+  part-zero e = sym (ap (adds bra (t .coeff)) (gone-where-zero (t .cre) (t .ann) ket (sym e)))
 
   module _ (word : ℕ) (sign : Sign) (e : Applied word sign ≡ applied (t .cre) (t .ann) ket) where
     there : part bra ket t ≡ adds bra (t .coeff) (went word (sign .0))
-    there = ap (adds bra (t .coeff)) (outcome-went word sign outcome e)
+    there = ap (adds bra (t .coeff)) (went-where-applied (t .cre) (t .ann) ket word sign (sym e))
 
     pub part-other : (word ≡ bra → ⊥) → pos 0 ≡ part bra ket t
     part-other n = sym (there ∙ rw (ne-eqb word bra n))

@@ -1,7 +1,7 @@
 -- The operations of the code on words are those on sets of modes, and a word is known by its modes.
 use mathlib.Core.Path.{_≡_, refl, sym, ap, ap₂, _∙_, subst, fun-ext}
 use mathlib.Core.Logic.{_⊎_, inl, inr}
-use mathlib.Core.Bool.{Bool, true, false, not, _&&_, _||_}
+use mathlib.Core.Bool.{Bool, true, false, not, _&&_, _||_, true≢false}
 use Prim.Native.Nat.{ℕ, zero, suc, _+_, _-_, _*_, _/_, _%_, _^_, _≤_, _<_, zero-le, suc-le-suc}
 use native.Mathlib.Nat.{le-of-suc-le-suc, not-suc-le-zero, zero-lt-suc, mod-lt, mod-eq-of-lt, div-eq-of-lt, div-add-mod', div-one, lt-of-lt-of-le, lt-of-le-of-lt, lt-suc-self, one-mul, pow-suc}
 use native.Mathlib.Numerals.{add-one, one-add}
@@ -64,6 +64,14 @@ bit-xor = bit-op bitXor _⊕_ xor-shr xor-mod refl refl refl refl
 pub bit-above : (k w p : ℕ) → w < 2 ^ k → k ≤ p → bit w p ≡ false
 unfolding bit
 bit-above k w p h l = ap (λ (x : ℕ). eqb (x % 2) 1) (div-eq-of-lt (lt-of-lt-of-le h (pow-mono l)))
+
+-- so a mode of a word stands below it
+pub bit-below : (k w p : ℕ) → w < 2 ^ k → bit w p ≡ true → p < k
+bit-below k w p h e = go (lt-or-ge p k)
+  where
+    go : (p < k) ⊎ (k ≤ p) → p < k
+    go (inl l) = l
+    go (inr l) = absurd (true≢false (sym e ∙ bit-above k w p h l))
 
 pub bit-zero : (w : ℕ) → bit w 0 ≡ eqb (w % 2) 1
 unfolding bit
@@ -146,3 +154,11 @@ bit-not (suc k) a (suc p) h l =
   where
     high : ((2 ^ suc k - 1) - a) / 2 ≡ (2 ^ k - 1) - a / 2
     high = omega (arith, pow-suc 2 k)
+
+-- `a & !b`: the modes of a that are not in b
+pub bit-without : (k a b p : ℕ) → a < 2 ^ k → b < 2 ^ k → bit (bitAnd a ((2 ^ k - 1) - b)) p ≡ bit a p && not (bit b p)
+bit-without k a b p ha hb = bit-and a ((2 ^ k - 1) - b) p ∙ at (lt-or-ge p k)
+  where
+    at : (p < k) ⊎ (k ≤ p) → bit a p && bit ((2 ^ k - 1) - b) p ≡ bit a p && not (bit b p)
+    at (inl l) = ap (λ (x : Bool). bit a p && x) (bit-not k b p hb l)
+    at (inr l) = rw (bit-above k a p ha l)

@@ -4,6 +4,7 @@ pub mod Digits
 pub mod Counts
 pub mod Sums
 pub mod Lowest
+pub mod LowestMode
 pub mod Single
 pub mod Before
 pub mod Every

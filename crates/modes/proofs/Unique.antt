@@ -4,7 +4,7 @@ use mathlib.Core.Bool.{Bool}
 use Prim.Native.Nat.{ℕ, _^_, _≤_}
 use lib.Dec.{ltb}
 use Rattle.modes.specs.Bools.{_⊕_}
-use Rattle.modes.specs.Words.{bit}
+use Rattle.modes.specs.Words.{bit, lowestMode}
 use Rattle.modes.specs.Counts.{parity, count}
 use Rattle.modes.specs.Answers.{refused}
 use Rattle.modes.specs.Spaces.{spaceOf, inside, wordRefusal, wordsRefusal}
@@ -41,6 +41,9 @@ one-refused f r s = one
 
 pub one-count : (w r s : ℕ) → (r ≡ count 64 (bit w)) × (r ≤ 64) → (s ≡ count 64 (bit w)) × (s ≤ 64) → r ≡ s
 one-count w r s p q = one (p .0) (q .0)
+
+pub one-lowest : (w r s : ℕ) → r ≡ lowestMode 64 (bit w) → s ≡ lowestMode 64 (bit w) → r ≡ s
+one-lowest w r s = one
 
 pub one-word : (m o p w : ℕ) (r s : Refusal) → r ≡ wordRefusal m o p w → s ≡ wordRefusal m o p w → r ≡ s
 one-word m o p w r s = one

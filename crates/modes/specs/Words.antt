@@ -1,5 +1,5 @@
 -- A word is a number, and the modes that it holds are its binary digits.
-use mathlib.Core.Bool.{Bool, true, _&&_}
+use mathlib.Core.Bool.{Bool, true, cond, _&&_}
 use Prim.Native.Nat.{ℕ, zero, suc, _/_, _%_, _^_}
 use lib.Dec.{eqb}
 use Rattle.modes.specs.Bools.{_⊕_}
@@ -21,3 +21,8 @@ unfoldable pub _△_ : Modes → Modes → Modes
 unfoldable pub each : ℕ → (ℕ → Bool) → Bool
 each zero f = true
 each (suc p) f = each p f && f p
+
+-- the lowest mode of u below k, or k where there is none
+unfoldable pub lowestMode : ℕ → Modes → ℕ
+lowestMode zero u = 0
+lowestMode (suc k) u = cond (u 0) 0 (suc (lowestMode k (λ p. u (suc p))))

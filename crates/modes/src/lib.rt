@@ -4,7 +4,7 @@ ghost use mathlib.Core.Bool.{true, false};
 ghost use Prim.Native.Nat.{_^_, _≤_};
 ghost use lib.Dec.{ltb};
 ghost use Rattle.modes.specs.Bools.{_⊕_};
-ghost use Rattle.modes.specs.Words.{bit};
+ghost use Rattle.modes.specs.Words.{bit, lowestMode};
 ghost use Rattle.modes.specs.Counts.{parity, count};
 ghost use Rattle.modes.specs.Spaces.{spaceOf, inside, wordRefusal, wordsRefusal};
 ghost use Rattle.modes.specs.Answers.{refused};
@@ -159,6 +159,13 @@ pub fn modes_in(word: u64) -> u64
     ensures { λ r. ⌜ (r ≡ count 64 (bit word)) × (r ≤ 64) ⌝ }
 {
     u64::count_ones(word) as u64
+}
+
+// The lowest mode that the word holds, or 64 where it holds none.
+pub fn lowest_mode(word: u64) -> u64
+    ensures { λ r. ⌜ r ≡ lowestMode 64 (bit word) ⌝ }
+{
+    u64::trailing_zeros(word) as u64
 }
 
 // Do both words hold only modes of the space?

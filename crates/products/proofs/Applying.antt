@@ -1,8 +1,7 @@
 -- Theorems on applying a term: when it succeeds, the new word's count, and that the swapped term restores the ket.
 use mathlib.Core.Path.{_≡_, refl, sym, ap, ap₂, _∙_}
 use mathlib.Core.Bool.{Bool, true, false, not, cond, _&&_, true≢false}
-use mathlib.Core.Logic.{_⊎_, inl, inr}
-use Prim.Native.Nat.{ℕ, _+_, _-_, _^_, _≤_, _<_}
+use Prim.Native.Nat.{ℕ, _+_, _-_, _^_, _<_}
 use native.Mathlib.Omega.{arith}
 use lib.Bits.{bitXor}
 use Rattle.modes.specs.Bools.{_⊕_}
@@ -11,10 +10,10 @@ use Rattle.modes.specs.Counts.{parity, count, pairs, oddExchanges}
 use Rattle.modes.specs.declared.Sign.{Sign}
 use Rattle.modes.proofs.Bools.{false-⊕, parity-sum}
 use Rattle.modes.proofs.Sets.{odd-exchanges-△-l, each-at, each-all}
-use Rattle.modes.proofs.Digits.{lt-or-ge, bit-xor, bits-xor, bit-above, ext}
+use Rattle.modes.proofs.Digits.{bit-below, bit-xor, bits-xor, ext}
 use Rattle.modes.proofs.Counts.{count-sum, count-mono, exchanges-odd, exchanges-self, parity-add}
 use Rattle.products.specs.PhaseRule.{gone, went}
-use Rattle.products.specs.Apply.{applyResultOf, applied, Ready}
+use Rattle.products.specs.Apply.{blockedBy, applyResultOf, applied, Ready}
 use Rattle.products.specs.declared.ApplyResult.the-variants.{Applied}
 use Rattle.products.specs.Product.{signOf}
 use Rattle.products.proofs.ClosedForm.{fit, acts, acts-is, term-is}
@@ -78,32 +77,27 @@ module _ (cre ann ket : ℕ) (hc : cre < 2 ^ 64) (ha : ann < 2 ^ 64) where
   ready-acts : Ready cre ann ket → acts cre ann ket ≡ true
   ready-acts r = acts-is cre ann ket ∙ each-all 64 _ (λ p l. ready-digit (bit cre p) (bit ann p) (bit ket p) (r .held p) (r .free p))
 
-  acts-ready : acts cre ann ket ≡ true → Ready cre ann ket
-  acts-ready e = record { held = λ p. held p (lt-or-ge p 64); free = λ p. free p (lt-or-ge p 64) }
+  pub acts-ready : acts cre ann ket ≡ true → Ready cre ann ket
+  acts-ready e = record {
+    held = λ p h. held-digit (bit cre p) (bit ann p) (bit ket p) (at p (bit-below 64 ann p ha h)) h;
+    free = λ p h. free-digit (bit cre p) (bit ann p) (bit ket p) (at p (bit-below 64 cre p hc h)) h;
+  }
     where
       at : (p : ℕ) → p < 64 → fit (bit cre p) (bit ann p) (bit ket p) ≡ true
       at = each-at 64 _ (sym (acts-is cre ann ket) ∙ e)
-
-      held : (p : ℕ) → (p < 64) ⊎ (64 ≤ p) → bit ann p ≡ true → bit ket p ≡ true
-      held p (inl l) h = held-digit (bit cre p) (bit ann p) (bit ket p) (at p l) h
-      held p (inr l) h = absurd (true≢false (sym h ∙ bit-above 64 ann p ha l))
-
-      free : (p : ℕ) → (p < 64) ⊎ (64 ≤ p) → bit cre p ≡ true → bit ket p && not (bit ann p) ≡ false
-      free p (inl l) h = free-digit (bit cre p) (bit ann p) (bit ket p) (at p l) h
-      free p (inr l) h = absurd (true≢false (sym h ∙ bit-above 64 cre p hc l))
 
   -- ---- when it succeeds
 
   pub applied-where-ready : Ready cre ann ket → applied cre ann ket ≡ Applied (bitXor (bitXor ket ann) cre) (record { 0 = signOf cre ann ket })
   applied-where-ready r =
-      ap applyResultOf (term-is cre ann ket false hc ha) ∙ rw (ready-acts r, false-⊕ (signOf cre ann ket))
+      ap (applyResultOf (blockedBy cre ann ket)) (term-is cre ann ket false hc ha) ∙ rw (ready-acts r, false-⊕ (signOf cre ann ket))
 
   -- an answer that is not Zero is of a ket that is ready
   pub ready-where-applied : (w : ℕ) (s : Sign) → applied cre ann ket ≡ Applied w s → Ready cre ann ket
-  ready-where-applied w s e = go (acts cre ann ket) refl (sym (ap applyResultOf (term-is cre ann ket false hc ha)) ∙ e)
+  ready-where-applied w s e = go (acts cre ann ket) refl (sym (ap (applyResultOf (blockedBy cre ann ket)) (term-is cre ann ket false hc ha)) ∙ e)
     where
       go : (b : Bool) → acts cre ann ket ≡ b
-          → applyResultOf (cond b (went (bitXor (bitXor ket ann) cre) (false ⊕ signOf cre ann ket)) gone) ≡ Applied w s → Ready cre ann ket
+          → applyResultOf (blockedBy cre ann ket) (cond b (went (bitXor (bitXor ket ann) cre) (false ⊕ signOf cre ann ket)) gone) ≡ Applied w s → Ready cre ann ket
       go true q r = acts-ready q
       go false q r = let z : _≡_ {A = ℕ} 0 1 = cc in absurd (omega arith)
 
@@ -156,5 +150,5 @@ module _ (cre ann ket : ℕ) (hc : cre < 2 ^ 64) (ha : ann < 2 ^ 64) where
 
     pub swapped-restores : applied ann cre w ≡ Applied ket (record { 0 = s .0 ⊕ parity (pairs (count 64 (bit cre)) + pairs (count 64 (bit ann))) })
     swapped-restores =
-        ap applyResultOf (term-is ann cre w false ha hc)
+        ap (applyResultOf (blockedBy ann cre w)) (term-is ann cre w false ha hc)
         ∙ rw (back-acts, back-word, false-⊕ (signOf ann cre w), back-sign)

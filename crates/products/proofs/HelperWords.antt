@@ -3,24 +3,21 @@ use mathlib.Core.Path.{_≡_, refl, sym, ap, ap₂, _∙_}
 use mathlib.Core.Bool.{Bool, true, false, not, _&&_, true≢false}
 use mathlib.Core.Logic.{_⊎_, inl, inr}
 use Prim.Native.Nat.{ℕ, _-_, _^_, _≤_, _<_}
-use lib.Bits.{bitAnd, bitOr, bitXor, or-zero-r}
+use native.Mathlib.Nat.{lt-of-le-of-lt}
+use lib.Bits.{bitAnd, bitOr, bitXor, and-le-l, or-zero-r}
 use Rattle.modes.specs.Bools.{_⊕_}
 use Rattle.modes.specs.Words.{Modes, bit, _△_}
 use Rattle.modes.specs.Counts.{odd, oddExchanges}
 use Rattle.modes.proofs.Bools.{false-⊕, ⊕-assoc}
 use Rattle.modes.proofs.Sets.{each-all, each-at, odd-none}
-use Rattle.modes.proofs.Digits.{lt-or-ge, bit-and, bit-not, bit-above, bit-none, bits-xor, odd-xor, ext}
+use Rattle.modes.proofs.Digits.{lt-or-ge, bit-and, bit-without, bit-above, bit-none, bits-xor, odd-xor, ext}
 use Rattle.products.specs.Product.{notEmpty, branching, creAt, annAt, minusAt}
 use Rattle.products.proofs.Signs.{joined}
 use Rattle.products.proofs.RowDigits.{minus-is}
 
 -- `a & b & !c`, mode by mode
 and-not : (a b c p : ℕ) → a < 2 ^ 64 → c < 2 ^ 64 → bit (bitAnd (bitAnd a b) ((2 ^ 64 - 1) - c)) p ≡ bit a p && bit b p && not (bit c p)
-and-not a b c p ha hc = bit-and (bitAnd a b) ((2 ^ 64 - 1) - c) p ∙ ap (λ (x : Bool). x && bit ((2 ^ 64 - 1) - c) p) (bit-and a b p) ∙ at (lt-or-ge p 64)
-  where
-    at : (p < 64) ⊎ (64 ≤ p) → bit a p && bit b p && bit ((2 ^ 64 - 1) - c) p ≡ bit a p && bit b p && not (bit c p)
-    at (inl l) = ap (λ (x : Bool). bit a p && bit b p && x) (bit-not 64 c p hc l)
-    at (inr l) = rw (bit-above 64 a p ha l)
+and-not a b c p ha hc = bit-without 64 (bitAnd a b) c p (lt-of-le-of-lt (and-le-l a b) ha) hc ∙ ap (λ (x : Bool). x && not (bit c p)) (bit-and a b p)
 
 -- ---- the lowest row
 
@@ -100,9 +97,5 @@ module _ (Lc La Rc Ra : ℕ) (hLc : Lc < 2 ^ 64) (hLa : La < 2 ^ 64) (hRc : Rc <
 
   pub bifurcating : (p : ℕ) → bit (bitAnd (bitAnd (bitAnd La Rc) ((2 ^ 64 - 1) - Lc)) ((2 ^ 64 - 1) - Ra)) p ≡ branching Lc La Rc Ra p
   bifurcating p =
-      bit-and (bitAnd (bitAnd La Rc) ((2 ^ 64 - 1) - Lc)) ((2 ^ 64 - 1) - Ra) p
-      ∙ ap (λ (x : Bool). x && bit ((2 ^ 64 - 1) - Ra) p) (and-not La Rc Lc p hLa hLc) ∙ at (lt-or-ge p 64)
-    where
-      at : (p < 64) ⊎ (64 ≤ p) → bit La p && bit Rc p && not (bit Lc p) && bit ((2 ^ 64 - 1) - Ra) p ≡ branching Lc La Rc Ra p
-      at (inl l) = ap (λ (x : Bool). bit La p && bit Rc p && not (bit Lc p) && x) (bit-not 64 Ra p hRa l)
-      at (inr l) = rw (bit-above 64 La p hLa l)
+      bit-without 64 (bitAnd (bitAnd La Rc) ((2 ^ 64 - 1) - Lc)) Ra p (lt-of-le-of-lt (and-le-l _ _) (lt-of-le-of-lt (and-le-l La Rc) hLa)) hRa
+      ∙ ap (λ (x : Bool). x && not (bit Ra p)) (and-not La Rc Lc p hLa hLc)

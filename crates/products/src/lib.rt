@@ -21,10 +21,17 @@ use modes::Sign;
 use modes::Term;
 use modes::Written;
 
-// What a term makes of a word: a word with a sign, or nothing.
+// What blocks a term on a word: the lowest annihilated mode that is missing from it; or, if none is missing, the lowest created
+// mode that is still occupied once the annihilated ones are removed.
+pub enum Blocked {
+    Missing(u64),
+    Occupied(u64),
+}
+
+// What a term makes of a word: a word with a sign; or nothing, and why.
 pub enum ApplyResult {
     Applied(u64, Sign),
-    Zero,
+    Zero(Blocked),
 }
 
 // The number of set bits of `word` below each set bit of `at`, summed together: the exchanges that it takes to
@@ -48,11 +55,11 @@ pub fn apply_op_ket_u64(cre: u64, ann: u64, ket: u64) -> ApplyResult
     ensures { λ r. ⌜ r ≡ applied cre ann ket ⌝ }
 {
     if ket & ann != ann {
-        return ApplyResult::Zero;
+        return ApplyResult::Zero(Blocked::Missing(modes::lowest_mode(ann & !ket)));
     }
     let ket_after_ann = ket & !ann;
     if cre & ket_after_ann != 0 {
-        return ApplyResult::Zero;
+        return ApplyResult::Zero(Blocked::Occupied(modes::lowest_mode(cre & ket_after_ann)));
     }
     let exponent = count_before_each_set_bit(ket, ann)
         + count_before_each_set_bit(ket_after_ann, cre);

@@ -1,18 +1,26 @@
--- `products::apply_op_ket_u64` meets its contract: its two tests and its two counts are those of the closed form.
+-- `products::apply_op_ket_u64` meets its contract: its two tests, the modes that they find and its two counts are those of the rule.
 use borrow.Author.Needs.{needs}
-use Rattle.products.proofs.Applied.{zero-not-held, zero-occupied, applied-is}
+use Rattle.products.proofs.Applied.{zero-missing, zero-occupied, applied-is}
 use Rattle.products.proofs.apply_op_ket_u64.Statement.{statement}
 use Rattle.products.proofs.apply_op_ket_u64.Tie as tie
 
+lowest-mode-requires : tie.Need-lowest-mode-requires
+lowest-mode-requires c κs = search needs
+
 returns : tie.Need-returns
 returns c =
-    let s = c .before in
-    zero-not-held (s .args .cre) (s .args .ann) (s .args .ket) (s .fits .cre .fits) (s .fits .ann .fits) (s .fits .ket .fits) (c .if1 .taken)
+    let s = c .before .before in
+    zero-missing (s .args .cre) (s .args .ann) (s .args .ket) (s .fits .cre .fits) (s .fits .ann .fits) (s .fits .ket .fits) (c .before .if1 .taken)
+    (c .lowest-mode .result) (c .lowest-mode .ensures)
+
+lowest-mode-requires-2 : tie.Need-lowest-mode-requires-2
+lowest-mode-requires-2 c κs = search needs
 
 returns-2 : tie.Need-returns-2
 returns-2 c =
-    let s = c .before .before in
-    zero-occupied (s .args .cre) (s .args .ann) (s .args .ket) (s .fits .cre .fits) (s .fits .ann .fits) (s .fits .ket .fits) (c .before .if1 .left) (c .if2 .taken)
+    let s = c .before .before .before in
+    zero-occupied (s .args .cre) (s .args .ann) (s .args .ket) (s .fits .cre .fits) (s .fits .ann .fits) (s .fits .ket .fits) (c .before .before .if1 .left)
+    (c .before .if2 .taken) (c .lowest-mode2 .result) (c .lowest-mode2 .ensures)
 
 count-before-each-set-bit-requires : tie.Need-count-before-each-set-bit-requires
 count-before-each-set-bit-requires c κs = search needs
@@ -39,7 +47,9 @@ pub apply-op-ket-u64-spec : {M : Type 1} → statement M
 apply-op-ket-u64-spec =
     tie.close
     (tie.spec
+    lowest-mode-requires
     returns
+    lowest-mode-requires-2
     returns-2
     count-before-each-set-bit-requires
     count-before-each-set-bit-requires-2
