@@ -20,14 +20,11 @@ def terms_and_kets(rng):
         yield cre, ann, ket
 
 
-def blocked_at(rng, reason, modes):
-    """A term and a ket on 64 modes that are blocked for this reason, by these modes and no others."""
+def blocked_at(rng, missing, occupied):
+    """A term and a ket on 64 modes, of whose modes just these are missing and just those are still occupied."""
     cre, ann, ket = (face.word(rng, 64, rng.choice((0.1, 0.3, 0.6))) for _ in range(3))
-    if reason == rule.MISSING:  # some created modes may be occupied besides
-        ann |= modes
-        return cre, ann, (ket | ann) & ~modes
-    cre, ann = cre | modes, ann & ~modes
-    return cre, ann, (ket | ann) & ~(cre & ~ann) | modes
+    cre, ann = cre | occupied, (ann | missing) & ~occupied
+    return cre, ann, (ket | ann) & ~missing & ~(cre & ~ann) | occupied
 
 
 def blocking(rng):
@@ -47,10 +44,12 @@ def check_apply(calls):
 
 def check_blocked(calls):
     for _ in range(1000):
-        for reason in (rule.MISSING, rule.OCCUPIED):
-            for place, modes in blocking(calls.rng):
-                words = blocked_at(calls.rng, reason, modes)
-                expected = calls.judge(f"fermion_apply, {TOLD[reason]}: {place}", "apply", *words)
+        for place, modes in blocking(calls.rng):
+            others = 3 << calls.rng.randrange(62) | face.word(calls.rng, 64, 0.2)
+            for missing, occupied, reason, besides in ((modes, 0, rule.MISSING, ""), (0, modes, rule.OCCUPIED, ""),
+                                                       (modes, others & ~modes, rule.MISSING, ", while others are occupied")):
+                words = blocked_at(calls.rng, missing, occupied)
+                expected = calls.judge(f"fermion_apply, {TOLD[reason]}: {place}{besides}", "apply", *words)
                 made_for = [0] * 6 + [reason, rule.bits(modes)[0]]
                 assert expected.numbers == made_for, "an input that is not what it was made for"
 

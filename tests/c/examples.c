@@ -399,17 +399,22 @@ static struct tally check_report(void)
 }
 
 /* The specification's cases 9 to 13, with what blocks the two that give Zero; then modes 0 and 63 that are missing or still
- * occupied, alone and with others above them, and a missing mode above an occupied one. */
+ * occupied, alone and with others above them, a missing mode above an occupied one, and the examples of docs/RECORD.md. */
 static struct tally check_apply(void)
 {
     struct tally t = {"fermion_apply", 0, 0};
+    enum { MISSING = FERMION_MISSING, OCCUPIED = FERMION_OCCUPIED };
     const uint64_t top = UINT64_C(1) << 63, full = UINT64_MAX;
     const uint64_t calls[][6] = {
-        {0, 0, top, 1, top, 0}, {4, 1, 3, 1, 6, 1},     {0, 4, 3, 0, FERMION_MISSING, 2},  {1, 0, 1, 0, FERMION_OCCUPIED, 0},
-        {1, 1, 1, 1, 1, 0},     {top, 0, top - 1, 1, full, 1}, {0, 3, 3, 1, 0, 1},         {3, 0, 0, 1, 3, 0},
-        {0, full, 0, 0, FERMION_MISSING, 0},            {0, full, top - 1, 0, FERMION_MISSING, 63},
-        {full, 0, full, 0, FERMION_OCCUPIED, 0},        {full, top - 1, full, 0, FERMION_OCCUPIED, 63},
-        {1, top, 1, 0, FERMION_MISSING, 63},            {12, 3, 15, 0, FERMION_OCCUPIED, 2},
+        {0, 0, top, 1, top, 0},           {4, 1, 3, 1, 6, 1},
+        {0, 4, 3, 0, MISSING, 2},         {1, 0, 1, 0, OCCUPIED, 0},
+        {1, 1, 1, 1, 1, 0},               {top, 0, top - 1, 1, full, 1},
+        {0, 3, 3, 1, 0, 1},               {3, 0, 0, 1, 3, 0},
+        {0, full, 0, 0, MISSING, 0},      {0, full, top - 1, 0, MISSING, 63},
+        {full, 0, full, 0, OCCUPIED, 0},  {full, top - 1, full, 0, OCCUPIED, 63},
+        {1, top, 1, 0, MISSING, 63},      {12, 3, 15, 0, OCCUPIED, 2},
+        {0, 6, 0, 0, MISSING, 1},         {0, 6, 2, 0, MISSING, 2},
+        {3, 0, 2, 0, OCCUPIED, 1},
     };
     for (size_t i = 0; i < sizeof calls / sizeof calls[0]; i++) {
         struct guarded got = dirty();

@@ -30,10 +30,9 @@ __all__ = [
     "Applied", "Blocked", "Branches", "Checked", "Columns", "Comparison", "Counted", "FloatTerms", "MAX_BASIS", "MAX_BYTES",
     "MAX_MODES", "MAX_REPORTED", "MAX_TERMS", "MAX_WEIGHT", "Product", "Readable", "Reason", "Record", "Refusal", "Report",
     "SENTENCES", "Share", "Term", "WORK_CEILING", "Writable", "Zero", "__version__", "active_modes", "add", "adjoint",
-    "anticommutator", "apply",
-    "block", "branches", "check", "commutator", "compare", "conserves_particle_number", "element", "hopping", "interaction",
-    "is_hermitian", "load", "mat_elem_complex", "mat_elem_real", "mat_ortho_projected", "max_n_body", "modes", "mul",
-    "mul_cmpnts", "number", "report_add", "sub", "word",
+    "anticommutator", "apply", "block", "branches", "check", "commutator", "compare", "conserves_particle_number", "element",
+    "hopping", "interaction", "is_hermitian", "load", "mat_elem_complex", "mat_elem_real", "mat_ortho_projected", "max_n_body",
+    "modes", "mul", "mul_cmpnts", "number", "report_add", "sub", "word",
 ]
 
 # Messages and pickles name the package, not the file in which a class stands.
