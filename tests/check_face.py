@@ -1,5 +1,5 @@
 #!/usr/bin/env python3
-"""One term on one word through the C face, against the rule worked out ladder by ladder."""
+"""The rule worked out ladder by ladder, against itself; then one term on one word through the C face, against the rule."""
 import face
 import rule
 from calls import run
@@ -54,4 +54,5 @@ def check_blocked(calls):
                 assert expected.numbers == made_for, "an input that is not what it was made for"
 
 
+rule.check()
 run(SEED, (check_apply, check_blocked))

@@ -214,9 +214,14 @@ def check_products(m):
     return len(terms) ** 2
 
 
-if __name__ == "__main__":
+def check():
+    """All of it, with what was compared; the first thing that is not so is an AssertionError."""
     check_cases()
     print("the specification's cases 1 to 13: as written there")
-    print(f"terms on kets of 4 modes: {check_blocked(4)} blocked exactly where they give Zero")
+    print(f"terms on kets of 4 modes: {check_blocked(4)}, blocked exactly where they give Zero")
     for m in (1, 2, 3):
         print(f"products on {m} modes: {check_products(m)} pairs act as R then L on every word")
+
+
+if __name__ == "__main__":
+    check()

@@ -57,6 +57,23 @@ fn what_blocks_a_term_is_told_in_a_sentence() {
 }
 
 #[test]
+fn what_blocks_a_term_on_four_modes() {
+    let lowest = |modes: u64| (0..64).find(|mode| modes >> mode & 1 == 1);
+    for code in 0..4096u64 {
+        let (cre, ann, ket) = (code & 15, code >> 4 & 15, code >> 8);
+        let blocked = match (lowest(ann & !ket), lowest(cre & ket & !ann)) {
+            (Some(mode), _) => Some(Blocked::Missing { mode }),
+            (None, Some(mode)) => Some(Blocked::Occupied { mode }),
+            (None, None) => None,
+        };
+        match apply(cre, ann, ket) {
+            Outcome::Zero(told) => assert_eq!(Some(told), blocked, "{code}"),
+            Outcome::Applied { word, .. } => assert_eq!((blocked, word), (None, ket & !ann | cre), "{code}"),
+        }
+    }
+}
+
+#[test]
 fn case_14() -> Result<(), Refusal> {
     let answer = fermion::commutator(&one(2, 1, 2, 1), &one(2, 2, 1, 1))?;
     assert_eq!(answer.record.as_bytes(), EXAMPLE);
