@@ -3,7 +3,8 @@ use mathlib.Core.Path.{_≡_, refl, sym, ap, ap₂, _∙_, subst, fun-ext}
 use mathlib.Core.Logic.{_⊎_, inl, inr}
 use mathlib.Core.Bool.{Bool, true, false, not, _&&_, _||_, true≢false}
 use Prim.Native.Nat.{ℕ, zero, suc, _+_, _-_, _*_, _/_, _%_, _^_, _≤_, _<_, zero-le, suc-le-suc}
-use native.Mathlib.Nat.{le-of-suc-le-suc, not-suc-le-zero, zero-lt-suc, mod-lt, mod-eq-of-lt, div-eq-of-lt, div-add-mod', div-one, lt-of-lt-of-le, lt-of-le-of-lt, lt-suc-self, one-mul, pow-suc}
+use native.Mathlib.Nat.{le-of-suc-le-suc, not-suc-le-zero, zero-lt-suc, mod-lt, mod-eq-of-lt, div-eq-of-lt, div-add-mod', div-one}
+use native.Mathlib.Nat.{lt-of-lt-of-le, lt-of-le-of-lt, lt-suc-self, one-mul, pow-suc}
 use native.Mathlib.Numerals.{add-one, one-add}
 use native.Mathlib.Omega.{arith}
 use lib.Dec.{eqb, ltb, T, eqb·zero-suc, eqb·suc-zero, eqb·suc-suc, lit<}
