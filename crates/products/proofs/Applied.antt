@@ -6,7 +6,7 @@ use native.Mathlib.Nat.{lt-of-le-of-lt}
 use lib.Bits.{bitAnd, bitOr, bitXor, and-le-l, or-disjoint, xor-disjoint, and-comm}
 use Rattle.modes.specs.Bools.{_⊕_}
 use Rattle.modes.specs.Words.{Modes, bit, lowestMode}
-use Rattle.modes.specs.Counts.{parity, exchanges, oddExchanges}
+use Rattle.modes.specs.Counts.{parity, exchanges}
 use Rattle.modes.specs.declared.Sign.{Sign}
 use Rattle.modes.proofs.Bools.{⊕-false, false-⊕, ⊕-self, and-l}
 use Rattle.modes.proofs.Digits.{bit-xor, bit-and, bit-without, bit-none, ext}
@@ -19,15 +19,15 @@ use Rattle.products.specs.Product.{signOf}
 use Rattle.products.proofs.Applying.{applied-where-ready}
 use Rattle.products.proofs.Blocking.{free-at, held-at, first-missing, zero-where-missing, first-occupied, zero-where-occupied}
 
--- `w & !a`, where a is a part of w
-without : (k w a : ℕ) → w < 2 ^ k → a < 2 ^ k → ((p : ℕ) → bit a p ≡ true → bit w p ≡ true) → bitAnd w ((2 ^ k - 1) - a) ≡ bitXor w a
-without k w a hw ha h = ext _ _ (λ p. bit-without k w a p hw ha ∙ digit (bit w p) (bit a p) (h p) ∙ sym (bit-xor w a p))
+-- `w ^ a`, where a is a part of w
+without : (w a : ℕ) → ((p : ℕ) → bit a p ≡ true → bit w p ≡ true) → (p : ℕ) → bit (bitXor w a) p ≡ bit w p && not (bit a p)
+without w a h p = bit-xor w a p ∙ digit (bit w p) (bit a p) (h p)
   where
-    digit : (x y : Bool) → (y ≡ true → x ≡ true) → x && not y ≡ x ⊕ y
-    digit true true q = sym (⊕-self true)
-    digit true false q = sym (⊕-false true)
-    digit false true q = q refl ∙ sym (false-⊕ true)
-    digit false false q = sym (⊕-false false)
+    digit : (x y : Bool) → (y ≡ true → x ≡ true) → x ⊕ y ≡ x && not y
+    digit true true q = ⊕-self true
+    digit true false q = ⊕-false true
+    digit false true q = false-⊕ true ∙ sym (q refl)
+    digit false false q = ⊕-false false
 
 module _ (cre ann ket : ℕ) (hc : cre < 2 ^ 64) (ha : ann < 2 ^ 64) (hk : ket < 2 ^ 64) where
   -- the words of the code: the annihilated modes that the ket lacks, the word after the annihilations, and its created modes
@@ -35,16 +35,13 @@ module _ (cre ann ket : ℕ) (hc : cre < 2 ^ 64) (ha : ann < 2 ^ 64) (hk : ket <
   missing = bitAnd ann ((2 ^ 64 - 1) - ket)
 
   abbrev after : ℕ
-  after = bitAnd ket ((2 ^ 64 - 1) - ann)
+  after = bitXor ket ann
 
   abbrev occupied : ℕ
   occupied = bitAnd cre after
 
   missing-bits : bit missing ≡ isMissing ann ket
   missing-bits = fun-ext (λ p. bit-without 64 ann ket p ha hk)
-
-  occupied-bits : bit occupied ≡ isOccupied cre ann ket
-  occupied-bits = fun-ext (λ p. bit-and cre after p ∙ ap (λ (x : Bool). bit cre p && x) (bit-without 64 ket ann p hk ha))
 
   -- `ket & ann == ann`
   held : bitAnd ket ann ≡ ann → (p : ℕ) → bit ann p ≡ true → bit ket p ≡ true
@@ -60,8 +57,11 @@ module _ (cre ann ket : ℕ) (hc : cre < 2 ^ 64) (ha : ann < 2 ^ 64) (hk : ket <
       digit x true q = rw (q refl)
       digit x false q = and-false x
 
-  free : occupied ≡ 0 → (p : ℕ) → bit cre p ≡ true → bit ket p && not (bit ann p) ≡ false
-  free e p = free-at cre ann ket p (sym (ap (λ (u : Modes). u p) occupied-bits) ∙ ap (λ (w : ℕ). bit w p) e ∙ bit-none p)
+  occupied-bits : bitAnd ket ann ≡ ann → bit occupied ≡ isOccupied cre ann ket
+  occupied-bits e = fun-ext (λ p. bit-and cre after p ∙ ap (λ (x : Bool). bit cre p && x) (without ket ann (held e) p))
+
+  free : bitAnd ket ann ≡ ann → occupied ≡ 0 → (p : ℕ) → bit cre p ≡ true → bit ket p && not (bit ann p) ≡ false
+  free m e p = free-at cre ann ket p (sym (ap (λ (u : Modes). u p) (occupied-bits m)) ∙ ap (λ (w : ℕ). bit w p) e ∙ bit-none p)
 
   pub zero-missing : (bitAnd ket ann ≡ ann → ⊥) → (p : ℕ) → p ≡ lowestMode 64 (bit missing) → Zero (Missing p) ≡ applied cre ann ket
   zero-missing n p e =
@@ -70,7 +70,7 @@ module _ (cre ann ket : ℕ) (hc : cre < 2 ^ 64) (ha : ann < 2 ^ 64) (hk : ket <
 
   pub zero-occupied : bitAnd ket ann ≡ ann → (occupied ≡ 0 → ⊥) → (p : ℕ) → p ≡ lowestMode 64 (bit occupied) → Zero (Occupied p) ≡ applied cre ann ket
   zero-occupied m n p e =
-      sym (zero-where-occupied cre ann ket hc ha p (first-occupied cre ann ket hc ha (held m) p (sym (e ∙ ap (lowestMode 64) occupied-bits))
+      sym (zero-where-occupied cre ann ket hc ha p (first-occupied cre ann ket hc ha (held m) p (sym (e ∙ ap (lowestMode 64) (occupied-bits m)))
       (rw e (lowest-lt 64 occupied (lt-of-le-of-lt (and-le-l cre after) hc) n))))
 
   -- x and y are the two exchange counts, and s the sign of their sum
@@ -78,24 +78,18 @@ module _ (cre ann ket : ℕ) (hc : cre < 2 ^ 64) (ha : ann < 2 ^ 64) (hk : ket <
       → x ≡ exchanges 64 (bit ket) (bit ann) → y ≡ exchanges 64 (bit after) (bit cre) → s .0 ≡ parity (x + y)
       → Applied (bitOr after cre) s ≡ applied cre ann ket
   applied-is e d x y s p q r =
-      ap₂ Applied word (sign-path (r ∙ sign)) ∙ sym (applied-where-ready cre ann ket hc ha (record { held = held e; free = free d }))
+      ap₂ Applied word (sign-path (r ∙ sign)) ∙ sym (applied-where-ready cre ann ket hc ha (record { held = held e; free = free e d }))
     where
-      w : after ≡ bitXor ket ann
-      w = without 64 ket ann hk ha (held e)
-
-      d′ : bitAnd cre (bitXor ket ann) ≡ 0
-      d′ = ap (bitAnd cre) (sym w) ∙ d
-
       sign-path : {a : Sign} {b : Bool} → a .0 ≡ b → _≡_ {A = Sign} a (record { 0 = b })
       sign-path h = λ i. record { 0 = h i }
 
-      word : bitOr after cre ≡ bitXor (bitXor ket ann) cre
-      word =
-          ap (λ (z : ℕ). bitOr z cre) w ∙ or-disjoint (bitXor ket ann) cre (and-comm (bitXor ket ann) cre ∙ d′)
-          ∙ sym (xor-disjoint (bitXor ket ann) cre (and-comm (bitXor ket ann) cre ∙ d′))
+      apart : bitAnd after cre ≡ 0
+      apart = and-comm after cre ∙ d
+
+      word : bitOr after cre ≡ bitXor after cre
+      word = or-disjoint after cre apart ∙ sym (xor-disjoint after cre apart)
 
       sign : parity (x + y) ≡ signOf cre ann ket
       sign =
           parity-add x y
-          ∙ ap₂ (λ (a b : Bool). a ⊕ b) (ap parity p ∙ exchanges-odd 64 (bit ket) (bit ann))
-          (ap parity q ∙ exchanges-odd 64 (bit after) (bit cre) ∙ ap (λ (z : ℕ). oddExchanges 64 (bit z) (bit cre)) w)
+          ∙ ap₂ (λ (a b : Bool). a ⊕ b) (ap parity p ∙ exchanges-odd 64 (bit ket) (bit ann)) (ap parity q ∙ exchanges-odd 64 (bit after) (bit cre))

@@ -57,7 +57,8 @@ pub fn apply_op_ket_u64(cre: u64, ann: u64, ket: u64) -> ApplyResult
     if ket & ann != ann {
         return ApplyResult::Zero(Blocked::Missing(modes::lowest_mode(ann & !ket)));
     }
-    let ket_after_ann = ket & !ann;
+    // the ket has every annihilated mode here, so that an exclusive or removes them
+    let ket_after_ann = ket ^ ann;
     if cre & ket_after_ann != 0 {
         return ApplyResult::Zero(Blocked::Occupied(modes::lowest_mode(cre & ket_after_ann)));
     }
