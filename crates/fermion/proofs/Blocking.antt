@@ -1,8 +1,10 @@
 -- The numbers of `fermion_apply` tell one outcome, so that they say which mode blocked a term, and why.
-use mathlib.Core.Path.{_≡_, refl, ap, ap₂}
+use mathlib.Core.Path.{_≡_, refl, sym, ap, _∙_}
 use mathlib.Core.Bool.{Bool, true, false, cond}
+use mathlib.Core.List.{List}
 use Prim.Native.Nat.{ℕ, _^_, _<_}
-use native.Mathlib.Omega.{arith}
+use lib.Dec.{eqb}
+use lib.ListN.{getD}
 use Rattle.products.specs.Apply.{applied, FirstMissing, FirstOccupied}
 use Rattle.products.specs.declared.Blocked.the-variants.{Missing, Occupied}
 use Rattle.products.specs.declared.ApplyResult.{ApplyResult}
@@ -10,27 +12,24 @@ use Rattle.products.specs.declared.ApplyResult.the-variants.{Applied, Zero}
 use Rattle.products.proofs.Blocking.{zero-where-missing, missing-where-zero, zero-where-occupied, occupied-where-zero}
 use Rattle.fermion.specs.Face.{values, applyAnswer}
 
--- the number of a sign tells the sign
-sign-told : (a b : Bool) → _≡_ {A = ℕ} (cond a 1 0) (cond b 1 0) → a ≡ b
-sign-told true true e = refl
-sign-told false false e = refl
-sign-told true false e = absurd (omega (arith, e))
-sign-told false true e = absurd (omega (arith, e))
+-- the outcome, as a caller reads it off the last three numbers
+outcomeOf : List ℕ → ApplyResult
+outcomeOf l =
+    cond (eqb (getD l 5 0) 1) (Applied (getD l 6 0) (record { 0 = eqb (getD l 7 0) 1 }))
+    (Zero (cond (eqb (getD l 6 0) 1) (Missing (getD l 7 0)) (Occupied (getD l 7 0))))
 
--- one outcome for each answer
+read-back : (r : ApplyResult) → outcomeOf (applyAnswer r) ≡ r
+unfolding outcomeOf
+read-back (Applied w s) = λ i. Applied w (record { 0 = sign (s .0) i })
+  where
+    sign : (b : Bool) → eqb (cond b 1 0) 1 ≡ b
+    sign true = refl
+    sign false = refl
+read-back (Zero (Missing p)) = refl
+read-back (Zero (Occupied p)) = refl
+
 pub told-one : (r s : ApplyResult) → applyAnswer r ≡ applyAnswer s → r ≡ s
-told-one (Applied v a) (Applied w b) e =
-    let p : v ≡ w = cc in
-    let q : _≡_ {A = ℕ} (cond (a .0) 1 0) (cond (b .0) 1 0) = cc in
-    ap₂ Applied p (λ i. record { 0 = sign-told (a .0) (b .0) q i })
-told-one (Applied v a) (Zero (Missing p)) e = let z : _≡_ {A = ℕ} 1 0 = cc in absurd (omega arith)
-told-one (Applied v a) (Zero (Occupied p)) e = let z : _≡_ {A = ℕ} 1 0 = cc in absurd (omega arith)
-told-one (Zero (Missing p)) (Applied w b) e = let z : _≡_ {A = ℕ} 0 1 = cc in absurd (omega arith)
-told-one (Zero (Missing p)) (Zero (Missing q)) e = let z : p ≡ q = cc in ap (λ (x : ℕ). Zero (Missing x)) z
-told-one (Zero (Missing p)) (Zero (Occupied q)) e = let z : _≡_ {A = ℕ} 1 2 = cc in absurd (omega arith)
-told-one (Zero (Occupied p)) (Applied w b) e = let z : _≡_ {A = ℕ} 0 1 = cc in absurd (omega arith)
-told-one (Zero (Occupied p)) (Zero (Missing q)) e = let z : _≡_ {A = ℕ} 2 1 = cc in absurd (omega arith)
-told-one (Zero (Occupied p)) (Zero (Occupied q)) e = let z : p ≡ q = cc in ap (λ (x : ℕ). Zero (Occupied x)) z
+told-one r s e = sym (read-back r) ∙ ap outcomeOf e ∙ read-back s
 
 -- what the numbers say, and when they say it
 module _ (cre ann ket : ℕ) (hc : cre < 2 ^ 64) (ha : ann < 2 ^ 64) (p : ℕ) where
