@@ -2,14 +2,15 @@
 use mathlib.Core.Path.{_≡_, refl, sym, ap, ap₂, _∙_, fun-ext}
 use mathlib.Core.Bool.{Bool, true, false, not, _&&_, and-false}
 use Prim.Native.Nat.{ℕ, _+_, _-_, _^_, _<_}
+use native.Mathlib.Omega.{arith}
 use native.Mathlib.Nat.{lt-of-le-of-lt}
-use lib.Bits.{bitAnd, bitOr, bitXor, and-le-l, or-disjoint, xor-disjoint, and-comm}
+use lib.Bits.{bitAnd, bitOr, bitXor, and-le-l, and-le-r, xor-add-and, or-disjoint, xor-disjoint, and-comm}
 use Rattle.modes.specs.Bools.{_⊕_}
 use Rattle.modes.specs.Words.{Modes, bit, lowestMode}
 use Rattle.modes.specs.Counts.{parity, exchanges}
 use Rattle.modes.specs.declared.Sign.{Sign}
-use Rattle.modes.proofs.Bools.{⊕-false, false-⊕, ⊕-self, and-l}
-use Rattle.modes.proofs.Digits.{bit-xor, bit-and, bit-without, bit-none, ext}
+use Rattle.modes.proofs.Bools.{⊕-false, false-⊕, ⊕-self, and-l, and-r}
+use Rattle.modes.proofs.Digits.{bit-xor, bit-and, bit-none, ext}
 use Rattle.modes.proofs.Counts.{parity-add, exchanges-odd}
 use Rattle.modes.proofs.LowestMode.{lowest-lt}
 use Rattle.products.specs.Apply.{isMissing, isOccupied, applied}
@@ -17,7 +18,7 @@ use Rattle.products.specs.declared.Blocked.the-variants.{Missing, Occupi
 use Rattle.products.specs.declared.ApplyResult.the-variants.{Applied, Zero}
 use Rattle.products.specs.Product.{signOf}
 use Rattle.products.proofs.Applying.{applied-where-ready}
-use Rattle.products.proofs.Blocking.{free-at, held-at, first-missing, zero-where-missing, first-occupied, zero-where-occupied}
+use Rattle.products.proofs.Blocking.{free-at, first-missing, zero-where-missing, first-occupied, zero-where-occupied}
 
 -- `w ^ a`, where a is a part of w
 without : (w a : ℕ) → ((p : ℕ) → bit a p ≡ true → bit w p ≡ true) → (p : ℕ) → bit (bitXor w a) p ≡ bit w p && not (bit a p)
@@ -29,10 +30,21 @@ without w a h p = bit-xor w a p ∙ digit (bit w p) (bit a p) (h p)
     digit false true q = false-⊕ true ∙ sym (q refl)
     digit false false q = ⊕-false false
 
-module _ (cre ann ket : ℕ) (hc : cre < 2 ^ 64) (ha : ann < 2 ^ 64) (hk : ket < 2 ^ 64) where
+-- `w - a`, where a is a part of w, is the same word
+less-is-xor : (w a : ℕ) → ((p : ℕ) → bit a p ≡ true → bit w p ≡ true) → w - a ≡ bitXor w a
+less-is-xor w a h = omega (arith, xor-add-and w a, part)
+  where
+    digit : (x y : Bool) → (y ≡ true → x ≡ true) → x && y ≡ y
+    digit x true q = rw (q refl)
+    digit x false q = and-false x
+
+    part : bitAnd w a ≡ a
+    part = ext _ _ (λ p. bit-and w a p ∙ digit (bit w p) (bit a p) (h p))
+
+module _ (cre ann ket : ℕ) (hc : cre < 2 ^ 64) (ha : ann < 2 ^ 64) where
   -- the words of the code: the annihilated modes that the ket lacks, the word after the annihilations, and its created modes
   abbrev missing : ℕ
-  missing = bitAnd ann ((2 ^ 64 - 1) - ket)
+  missing = ann - bitAnd ket ann
 
   abbrev after : ℕ
   after = bitXor ket ann
@@ -41,21 +53,29 @@ module _ (cre ann ket : ℕ) (hc : cre < 2 ^ 64) (ha : ann < 2 ^ 64) (hk : ket <
   occupied = bitAnd cre after
 
   missing-bits : bit missing ≡ isMissing ann ket
-  missing-bits = fun-ext (λ p. bit-without 64 ann ket p ha hk)
+  missing-bits =
+      fun-ext
+      (λ p.
+      ap (λ (w : ℕ). bit w p) (less-is-xor ann had part) ∙ without ann had part p ∙ ap (λ (x : Bool). bit ann p && not x) (bit-and ket ann p)
+      ∙ digit (bit ket p) (bit ann p))
+    where
+      had : ℕ
+      had = bitAnd ket ann
+
+      part : (p : ℕ) → bit had p ≡ true → bit ann p ≡ true
+      part p h = and-r (bit ket p) (bit ann p) (sym (bit-and ket ann p) ∙ h)
+
+      digit : (x y : Bool) → y && not (x && y) ≡ y && not x
+      digit true true = refl
+      digit true false = refl
+      digit false y = refl
 
   -- `ket & ann == ann`
   held : bitAnd ket ann ≡ ann → (p : ℕ) → bit ann p ≡ true → bit ket p ≡ true
   held e p h = and-l (bit ket p) (bit ann p) (sym (bit-and ket ann p) ∙ ap (λ (w : ℕ). bit w p) e ∙ h)
 
   some-missing : (bitAnd ket ann ≡ ann → ⊥) → missing ≡ 0 → ⊥
-  some-missing n e = n (ext _ _ (λ p. bit-and ket ann p ∙ digit (bit ket p) (bit ann p) (none p)))
-    where
-      none : (p : ℕ) → bit ann p ≡ true → bit ket p ≡ true
-      none p = held-at ann ket p (sym (ap (λ (u : Modes). u p) missing-bits) ∙ ap (λ (w : ℕ). bit w p) e ∙ bit-none p)
-
-      digit : (x y : Bool) → (y ≡ true → x ≡ true) → x && y ≡ y
-      digit x true q = rw (q refl)
-      digit x false q = and-false x
+  some-missing n e = n (omega (arith, and-le-r ket ann))
 
   occupied-bits : bitAnd ket ann ≡ ann → bit occupied ≡ isOccupied cre ann ket
   occupied-bits e = fun-ext (λ p. bit-and cre after p ∙ ap (λ (x : Bool). bit cre p && x) (without ket ann (held e) p))
@@ -66,7 +86,7 @@ module _ (cre ann ket : ℕ) (hc : cre < 2 ^ 64) (ha : ann < 2 ^ 64) (hk : ket <
   pub zero-missing : (bitAnd ket ann ≡ ann → ⊥) → (p : ℕ) → p ≡ lowestMode 64 (bit missing) → Zero (Missing p) ≡ applied cre ann ket
   zero-missing n p e =
       sym (zero-where-missing cre ann ket hc ha p (first-missing cre ann ket hc ha p (sym (e ∙ ap (lowestMode 64) missing-bits))
-      (rw e (lowest-lt 64 missing (lt-of-le-of-lt (and-le-l ann _) ha) (some-missing n)))))
+      (rw e (lowest-lt 64 missing (omega arith) (some-missing n)))))
 
   pub zero-occupied : bitAnd ket ann ≡ ann → (occupied ≡ 0 → ⊥) → (p : ℕ) → p ≡ lowestMode 64 (bit occupied) → Zero (Occupied p) ≡ applied cre ann ket
   zero-occupied m n p e =

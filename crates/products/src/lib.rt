@@ -54,8 +54,9 @@ pub fn count_before_each_set_bit(word: u64, at: u64) -> u32
 pub fn apply_op_ket_u64(cre: u64, ann: u64, ket: u64) -> ApplyResult
     ensures { λ r. ⌜ r ≡ applied cre ann ket ⌝ }
 {
-    if ket & ann != ann {
-        return ApplyResult::Zero(Blocked::Missing(modes::lowest_mode(ann & !ket)));
+    let held = ket & ann;
+    if held != ann {
+        return ApplyResult::Zero(Blocked::Missing(modes::lowest_mode(ann - held)));
     }
     // the ket has every annihilated mode here, so that an exclusive or removes them
     let ket_after_ann = ket ^ ann;
