@@ -56,6 +56,7 @@ pub fn apply_op_ket_u64(cre: u64, ann: u64, ket: u64) -> ApplyResult
 {
     let held = ket & ann;
     if held != ann {
+        // `held` is a part of `ann`, so that the difference has the modes that the ket lacks
         return ApplyResult::Zero(Blocked::Missing(modes::lowest_mode(ann - held)));
     }
     // the ket has every annihilated mode here, so that an exclusive or removes them
