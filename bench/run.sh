@@ -10,7 +10,7 @@ library=$("$root/tools/shared_object.sh" | tail -n 1)
 echo "the library: ${library#*: }"
 library=${library%%: *}
 sh "$root/oracle/bench_mul.sh" "$library"
-for program in add commutator matrix float; do
+for program in add commutator matrix n_body float; do
     echo "== $program"
     "$root/oracle/build/unchanged/target/release/bench_$program" "$library"
 done

@@ -123,8 +123,8 @@ void fermion_anticommutator(const uint8_t *a, size_t a_len, const uint8_t *b, si
 /* The adjoint of a. Refusals: the record, OUTPUT_TOO_SHORT. */
 void fermion_adjoint(const uint8_t *a, size_t a_len, uint8_t *out, size_t out_len, uint64_t answer[8]);
 
-/* Tests and figures of one record, in [5]: 1 or 0; 1 or 0; the largest rank; the union of all words. Refusals: the
- * record. */
+/* Tests and figures of one record, in [5]: 1 or 0; 1 or 0; the largest rank; the union of all words. The rank of a term
+ * is the larger of its creation and annihilation counts. Refusals: the record. */
 void fermion_is_hermitian(const uint8_t *a, size_t a_len, uint64_t answer[8]);
 void fermion_conserves_particle_number(const uint8_t *a, size_t a_len, uint64_t answer[8]);
 void fermion_max_n_body(const uint8_t *a, size_t a_len, uint64_t answer[8]);

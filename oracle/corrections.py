@@ -1,16 +1,17 @@
 #!/usr/bin/env python3
-"""Makes the corrected copy: four corrections, written into a COPY of zixy's sources.
+"""Makes the corrected copy: five corrections, written into a COPY of zixy's sources.
 
     python3 corrections.py FOLDER
 
-The copy is not the unchanged Rust and no stored answer comes from it. It shows that these four
-corrections are all that parts the Rust's products and adjoints from the specification.
+The copy is not the unchanged Rust and no stored answer comes from it. It shows that these five
+corrections are all that parts the Rust's products, adjoints and ranks from the specification.
 """
 import pathlib
 import sys
 
 PRODUCTS = "fermion/operator/normal/products.rs"
 LINCOMB = "fermion/operator/normal/cmpnt_major/lincomb.rs"
+CMPNT_LIST = "fermion/operator/normal/cmpnt_list.rs"
 
 # (what is corrected, file, [(text that must occur exactly once, its replacement)])
 CORRECTIONS = [
@@ -58,6 +59,11 @@ CORRECTIONS = [
         let minus = cmpnt.get_cre_part().sign_of_dagger().0 ^ cmpnt.get_ann_part().sign_of_dagger().0;
         let coeff_conj = if minus { -coeff_conj } else { coeff_conj };
 """)],
+    ),
+    (
+        "5. CmpntRef::count_n_body: the larger of the two counts, not half of their sum",
+        CMPNT_LIST,
+        [("        (n_cre + n_ann) / 2\n", "        n_cre.max(n_ann)\n")],
     ),
 ]
 

@@ -263,8 +263,8 @@ RECORDS_HEADER = """\
 # and conserves are true or false, max_n_body is decimal, active is the union of the words, hexadecimal.
 # agree: the answer equals that of tests/records.py.
 # KIND: sign (a term has the opposite coefficient), yes (the Rust says true, the answer is false), no (the other
-# way round). corrected:agree: the corrected copy of the Rust gives the answer of tests/records.py, as it does on
-# all lines.
+# way round), lower (the Rust's number is smaller than the answer). corrected:agree: the corrected copy of the Rust
+# gives the answer of tests/records.py, as it does on all lines.
 """
 
 PRODUCTS_HEADER = """\

@@ -76,7 +76,8 @@ def kinds(function, got, right):
     identity  the coefficient of {|} is another one
     sign      a term has the opposite coefficient
     terms     a term has another coefficient otherwise, is missing, or should not be there
-    number    another number
+    lower     a smaller number
+    number    another number otherwise
     """
     if got is None:
         return ["panic"]
@@ -85,7 +86,7 @@ def kinds(function, got, right):
     if function in ("hermitian", "conserves"):
         return ["yes" if got else "no"]
     if function not in OPERATORS:
-        return ["number"]
+        return ["lower" if function == "max_n_body" and got < right else "number"]
     is_, should = ({row[:2]: row[2] for row in rows} for rows in (got, right))
     found = set()
     for term in is_.keys() | should.keys():

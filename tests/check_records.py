@@ -5,6 +5,7 @@ import itertools
 
 import draws
 import records
+import rule
 import stored
 from calls import run
 
@@ -292,7 +293,28 @@ def check_every_stretch(calls):
             calls.judge("stretches: every word on 3 modes, and words outside", "block", a, word)
 
 
+# Ranks
+
+
+def check_ranks(calls):
+    """Every number of annihilations with every number of creations: the larger of both, of one term and of two."""
+    test, sizes = "every number of creations and annihilations", list(itertools.product(range(65), repeat=2))
+    other = calls.rng.sample(sizes, len(sizes))
+    for one, two in zip(sizes, other):
+        terms = [tuple(draws.of_size(calls.rng, size) for size in pair) for pair in (one, two)]
+        for some in (terms[:1], sorted(set(terms))):
+            a = records.encode(64, [(*words, draws.coefficient(calls.rng)) for words in some])
+            answer = calls.judge(f"max_n_body: {test}", "max_n_body", a)
+            largest = max(one) if len(some) == 1 else max(*one, *two)
+            calls.tally.same(f"max_n_body: {test}: by hand", answer.numbers, [0, 0, 0, 0, 0, largest, 0, 0], (one, two))
+
+
 # The stored answers of zixy
+
+
+def halved(rows):
+    """zixy's rule: creations and annihilations, halved, rounded down; the largest, 0 for no terms."""
+    return max(((rule.size(ann) + rule.size(cre)) // 2 for ann, cre, _ in rows), default=0)
 
 
 def as_stored(got, name):
@@ -318,10 +340,12 @@ def check_stored(calls):
         got, rust = as_stored(calls.call(name, *args), name), stored_answer(name, answer)
         about = f"{function} {m} {operators}"
         calls.judge_stored(name, got, rust, agrees, about)
+        if name == "max_n_body":
+            calls.tally.same("max_n_body: the Rust's stored answers are halves", rust, halved(stored.rows(operators[0])), about)
 
 
 run(SEED, (
     check_example, check_drawn, check_same_memory, check_lengths, check_damaged, check_both_damaged, check_flips,
     check_modes, check_top_modes, check_sizes, check_weights, check_result_weights, check_large,
-    check_every_stretch, check_stored,
+    check_every_stretch, check_ranks, check_stored,
 ))

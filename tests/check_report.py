@@ -93,20 +93,15 @@ def unread(rng):
     return [EXAMPLE, drawn(rng), *some_damaged(rng), b"", b"\xff" * 31, rng.randbytes(32), rng.randbytes(50000)]
 
 
-def word(rng, size):
-    """A word of so many of 64 modes."""
-    return sum(1 << p for p in rng.sample(range(64), size))
-
-
-def term(rng, ladders):
-    """(ann, cre) on 64 modes, of so many ladders in all."""
-    size = rng.randint(max(0, ladders - 64), min(64, ladders))
-    return word(rng, size), word(rng, ladders - size)
+def term(rng, *sizes):
+    """(ann, cre) on 64 modes, of so many annihilations and creations."""
+    return tuple(draws.of_size(rng, size) for size in sizes)
 
 
 def term_of_rank(rng, rank):
-    """Of an even or an odd number of ladders; rank 64 has an even one alone."""
-    return term(rng, min(128, 2 * rank + rng.randint(0, 1)))
+    """Of as many annihilations or creations as the rank, and of the others as many or fewer, of each number alike."""
+    sizes = rank, rng.randint(0, rank)
+    return term(rng, *rng.choice((sizes, sizes[::-1])))
 
 
 def one_of_each_rank(rng, c):
@@ -186,7 +181,7 @@ def alike():
     half = HEAVIEST // 2
     yield "of weight 2^60", 0, [(0, 0, HEAVIEST)], (1024, 1024, 0)
     yield "of weight 2^60 - 1", 64, [(FULL, FULL, 1 - HEAVIEST)], (1024, 1023, UNIT - 1024)
-    yield "of weight 2^60 in two terms", 2, [(1, 7, half + 5), (3, 3, 5 - half)], (2048, 1024, 0)
+    yield "of weight 2^60 in two terms", 2, [(1, 3, half + 5), (3, 3, 5 - half)], (2048, 1024, 0)
     yield "of no terms", 0, [], (0, 0, 0)
     many = [(1 << i // 64, 1 << i % 64, 2**49) for i in range(2048)]
     yield "of 2,048 terms and weight 2^60", 1, many, (2**21, 1024, 0)
@@ -207,7 +202,7 @@ def check_alike(calls):
 
 
 def check_refused(calls):
-    """1,024 records that are refused; then accepted ones among them, of weight 2^60 and five ladders, so of rank 2."""
+    """1,024 records that are refused; then accepted ones among them, of weight 2^60 and three creations, so of rank 3."""
     wrong, good = some_damaged(calls.rng), records.encode(3, [(3, 7, -HEAVIEST)])
     patterns = {"are refused": "r", "are refused but for the first": "a" + "r" * 1023,
                 "are refused but for the last": "r" * 1023 + "a", "are accepted and refused by turns": "ar",
@@ -219,7 +214,7 @@ def check_refused(calls):
             report = count(calls, f"1,024 records that {what}", a, report)
         share = accepted, accepted, 0
         told = [accepted, 1024 - accepted, *share, HEAVIEST if accepted else 0, *[0] * 195]
-        calls.tally.same(f"1,024 records that {what}: by formula", report, with_numbers(told, 6 + 3 * 2, *share), what)
+        calls.tally.same(f"1,024 records that {what}: by formula", report, with_numbers(told, 6 + 3 * 3, *share), what)
         for other in unread(calls.rng):
             judge_bad(calls, "the 1,025th record, refused ones counted: refusal 15", other, report)
 
@@ -287,7 +282,7 @@ def check_passed(calls):
     at_limits = [1022, 0, *LIMITS, FULL, *LIMITS * 65]
     some = [records.encode(1, []), EXAMPLE, one_of_each_rank(rng, HEAVIEST // 65), one_of_each_rank(rng, 1)]
     some += [records.encode(64, weighed(of_one_rank(rng, rank, n), HEAVIEST))
-             for rank, n in ((0, 1), (0, 100), (1, 1), (1, 2048), (32, 2048), (63, 2048), (64, 1))]
+             for rank, n in ((0, 1), (1, 1), (1, 2048), (2, 100), (32, 2048), (63, 2048), (64, 1), (64, 2048))]
     for a in some:
         report, alone = count(calls, "sums above the limits", a, at_limits), figures([a])
         for at in SHARES:
@@ -316,40 +311,40 @@ def check_not_looked_at(calls):
 
 
 def check_ranks(calls):
-    """Every number of annihilations with every number of creations, 65 terms a record; the rank is worked out from them."""
+    """Every number of annihilations with every number of creations, 65 terms a record: the larger of both is the rank."""
     rng = calls.rng
     for size, turned in itertools.product(RANKS, (0, 1)):
         terms, told = [], [[0, 0, 0] for _ in RANKS]
         for other in RANKS:
-            pair, c = (word(rng, size), word(rng, other)), 1 + other * rng.randrange(2**40)
+            pair, c = term(rng, size, other), 1 + other * rng.randrange(2**40)
             terms.append((*(pair[::-1] if turned else pair), c if other % 2 else -c))
-            told[(size + other) // 2][0] += 1
-            told[(size + other) // 2][2] += c
+            told[max(size, other)][0] += 1
+            told[max(size, other)][2] += c
         report = count(calls, "every number of creations and annihilations", records.encode(64, sorted(terms)), FRESH)
         told = list(itertools.chain(*told))
         calls.tally.same("every number of creations and annihilations: by hand", report[6:], told, (size, turned))
 
 
 def check_one_term(calls):
-    """One term of 0 to 128 ladders, odd numbers too: its rank alone is changed."""
+    """One term, {|}, {0|} and {0,1|2} among them, of each rank: its rank alone is changed."""
     rng = calls.rng
-    stated = [(0, 0, 0), (1, 0, 0), (0, 1, 0), (1, 1, 1), (3, 1, 1), (0, 3, 1), (7, 0, 1), (3, 3, 2), (7, 7, 3),
-              (FULL, 0, 32), (0, FULL, 32), (FULL, 1, 32), (3, FULL, 33), (FULL, FULL >> 1, 63), (FULL - 1, FULL, 63),
-              (FULL, FULL, 64)]
+    stated = [(0, 0, 0), (0, 1, 1), (4, 3, 2), (1, 0, 1), (1, 1, 1), (3, 1, 2), (0, 3, 2), (7, 0, 3), (3, 3, 2), (7, 7, 3),
+              (FULL, 0, 64), (0, FULL, 64), (FULL, 1, 64), (3, FULL, 64), (FULL >> 1, 0, 63), (1, FULL - 1, 63),
+              (FULL, FULL >> 1, 64), (FULL - 1, FULL, 64), (FULL, FULL, 64)]
     terms = stated + [((1 << m) - 1, (1 << m) - 1, m) for m in range(1, 65)]
-    terms += [(*term(rng, ladders), ladders // 2) for ladders in range(129) for _ in range(6)]
+    terms += [(*term_of_rank(rng, rank), rank) for rank in RANKS for _ in range(12)]
     for ann, cre, rank in terms:
         c = rng.choice((1, -1, HEAVIEST, -HEAVIEST, draws.coefficient(rng)))
-        report = count(calls, "one term of 0 to 128 ladders", records.encode(64, [(ann, cre, c)]), FRESH)
+        report = count(calls, "one term of each rank", records.encode(64, [(ann, cre, c)]), FRESH)
         share = 1, *divmod(abs(c), UNIT)
         told = with_numbers([1, 0, *share, abs(c), *[0] * 195], 6 + 3 * rank, *share)
-        calls.tally.same("one term of 0 to 128 ladders: by hand", report, told, (ann, cre))
+        calls.tally.same("one term of each rank: by hand", report, told, (ann, cre))
 
 
 def check_one_rank(calls):
     """2,048 terms of one rank, whose weight carries the low over 2^60."""
     rng = calls.rng
-    for rank in (1, 2, 31, 32, 63):
+    for rank in (1, 2, 31, 32, 63, 64):
         rows = of_one_rank(rng, rank, 2048)
         even = [(ann, cre, c * 2**49) for ann, cre, c in rows]
         for some in (even, weighed(rows, HEAVIEST), weighed(rows, HEAVIEST - 5), rows):
@@ -398,7 +393,7 @@ def check_heavy(calls):
     rng = calls.rng
     for sizes, rank in itertools.product(heavy(), (1, 30, None)):
         n = len(sizes)
-        words = of_one_rank(rng, rank, n) if rank else sorted({term(rng, rng.randint(0, 128)): 0 for _ in range(9 * n)})[:n]
+        words = of_one_rank(rng, rank, n) if rank else draws.many(rng, 64, n)
         assert len(words) == n and records.weight([(0, 0, c) for c in sizes]) > HEAVIEST
         a = records.encode(64, [(*row[:2], c) for row, c in zip(words, rng.sample(sizes, n))])
         answer = calls.judge("weights above 2^60, and sums that wrap", "report_add", a, FRESH)

@@ -8,6 +8,11 @@ def coefficient(rng):
     return rng.choice((1, -1)) * rng.randint(1, 1 << rng.choice((0, 1, 3, 8, 20, 40, 54)))
 
 
+def of_size(rng, size):
+    """A word of so many of 64 modes."""
+    return sum(1 << p for p in rng.sample(range(64), size))
+
+
 def term(rng, m, kind, near=None):
     """(ann, cre) on m modes: dense words, few modes, or as many creations as annihilations; these on modes that are near."""
     if kind == "dense":

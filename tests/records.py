@@ -281,8 +281,8 @@ def conserves_particle_number(a):
 
 
 def rank(ann, cre):
-    """Creations and annihilations, halved, rounded down."""
-    return (rule.size(ann) + rule.size(cre)) // 2
+    """The larger of the annihilation and creation counts."""
+    return max(rule.size(ann), rule.size(cre))
 
 
 def max_n_body(a):
@@ -515,6 +515,13 @@ def check_refusals():
     assert mat_elem_real(2, [0], [3], [bits_of(0.0)], 0, 3) == Answer([0] * 8, (bytes(16),))
 
 
+def check_ranks():
+    """{|} has rank 0, {0|} 1, {0,1|2} 2; of a record the largest counts, and of no terms 0."""
+    rows = [(0, 0, 1), (0, 1, 1), (4, 3, 1)]
+    assert [rank(ann, cre) for ann, cre, _ in rows] == [0, 1, 2]
+    assert [max_n_body(encode(3, rows[:n])).numbers[5] for n in range(4)] == [0, 0, 1, 2]
+
+
 def check_report():
     """Case 14's record counted, then one that is refused; a full report and one with a low of 2^60."""
     one = [1, 0, 2, 0, 2, 2, 0, 0, 0, 2, 0, 2, *[0] * 189]  # both terms have rank 1
@@ -584,7 +591,8 @@ if __name__ == "__main__":
     print("the whole example, cases 14 and 15: as written there")
     check_refusals()
     print("refusals: in the order of the specification")
+    check_ranks()
     check_report()
-    print("the report: as worked out by hand")
+    print("ranks and the report: as worked out by hand")
     for m, n in ((1, 300), (2, 600), (3, 200)):
         print(f"records on {m} modes: elements of the answers are those of the operands, {check_elements(m, n)} pairs")

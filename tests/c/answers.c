@@ -199,7 +199,7 @@ struct answer plain_max_n_body(struct bytes a)
         return no;
     uint64_t most = 0;
     for (size_t i = 0; i < first.n; i++) {
-        uint64_t rank = (size(first.at[i].cre) + size(first.at[i].ann)) / 2;
+        uint64_t cre = size(first.at[i].cre), ann = size(first.at[i].ann), rank = cre > ann ? cre : ann;
         most = rank > most ? rank : most;
     }
     return values(most, 0, 0);

@@ -327,6 +327,26 @@ static struct tally check_branches(void)
     return t;
 }
 
+static void check_rank(struct tally *t, size_t n, const int8_t terms[][3], uint64_t rank)
+{
+    uint8_t a[104];
+    struct guarded got = dirty();
+    fermion_max_n_body(a, record_of(a, n, terms), got.answer);
+    same_answer(t, got, answer_of(0, 0, 0, 0, rank, 0, 0));
+}
+
+/* The example, whose terms have rank 1; then {|}, {0|}, {|1}, {0,1|}, {0,1|1} and {|0,1}, each alone, and the first three. */
+static struct tally check_max_n_body(void)
+{
+    struct tally t = check_test("fermion_max_n_body", fermion_max_n_body, 1, 0, 0);
+    static const int8_t terms[][3] = {{0, 0, 1}, {0, 1, 1}, {2, 0, 1}, {0, 3, 1}, {2, 3, 1}, {3, 0, 1}};
+    static const uint64_t ranks[] = {0, 1, 1, 2, 2, 2};
+    for (size_t i = 0; i < sizeof ranks / sizeof ranks[0]; i++)
+        check_rank(&t, 1, &terms[i], ranks[i]);
+    check_rank(&t, 3, terms, 1);
+    return t;
+}
+
 /* a report between guards */
 struct counted {
     uint64_t before, numbers[FERMION_REPORT], after;
@@ -371,19 +391,21 @@ static void check_bad_reports(struct tally *t)
         }
 }
 
-/* The example has two terms of rank 1 and the weight 2. A byte less of it is refused with 1, and so are no bytes; with its
- * second coefficient 0 it is refused with 4 at the place 1. A weight is carried over 2^60, and sums go above the limits. */
+/* The example has two terms of rank 1 and the weight 2, and so has {0|} - {|1}. A byte less of the example is refused with 1,
+ * and so are no bytes; with its second coefficient 0 it is refused with 4 at the place 1. A weight is carried over 2^60, and
+ * sums go above the limits. */
 static struct tally check_report(void)
 {
     struct tally t = {"fermion_report_add", 0, 0};
-    static const int8_t zero[][3] = {{1, 1, 1}, {2, 2, 0}};
+    static const int8_t zero[][3] = {{1, 1, 1}, {2, 2, 0}}, odd[][3] = {{0, 1, 1}, {2, 0, -1}};
     const uint64_t unit = UINT64_C(1) << 60, most = 1 << 21;
     const struct guarded yes = answer_of(0, 0, 0, 0, 1, 0, 0), no = answer_of(0, 0, 0, 0, 0, 1, 0);
     const struct counted once = report_of(1, 0, 2, 0, 2, 2), twice = report_of(2, 0, 4, 0, 4, 2);
     const struct counted and_one_not = report_of(1, 1, 2, 0, 2, 2), room_for_one = report_of(1000, 23, 2, 0, 2, 2);
-    uint8_t wrong[80];
-    record_of(wrong, 2, zero);
+    uint8_t wrong[80], lone[80];
+    record_of(wrong, 2, zero), record_of(lone, 2, odd);
     check_count(&t, example, 80, report_of(0, 0, 0, 0, 0, 0), once, yes);
+    check_count(&t, lone, 80, report_of(0, 0, 0, 0, 0, 0), once, yes);
     check_count(&t, example, 80, once, twice, yes);
     check_count(&t, none, 32, once, report_of(2, 0, 2, 0, 2, 2), yes);
     check_count(&t, example, 79, once, and_one_not, no);
@@ -498,7 +520,7 @@ void check_examples(int *passed, int *failed)
         check_adjoint(),
         check_test("fermion_is_hermitian", fermion_is_hermitian, 1, 0, 0),
         check_test("fermion_conserves_particle_number", fermion_conserves_particle_number, 1, 0, 0),
-        check_test("fermion_max_n_body", fermion_max_n_body, 1, 0, 0),
+        check_max_n_body(),
         check_test("fermion_active_modes", fermion_active_modes, 3, 0, 0),
         check_report(),
         check_stretches(),

@@ -152,10 +152,13 @@ def conserves_particle_number(a: Readable) -> bool:
 
 
 def max_n_body(a: Readable) -> int:
-    """The largest rank of a term, 0 for no terms. Refusals: 1 to 5.
+    """The largest rank of a term, 0 for no terms. The rank is the larger of its creation and annihilation counts. Refusals:
+    1 to 5.
 
     >>> max_n_body(Record.build(4, [(word(0, 1), word(2, 3), 1), (1, 1, 1)]))
     2
+    >>> [max_n_body(Record.build(3, [term])) for term in ((0, 0, 1), (word(0), 0, 1), (word(0, 1), word(2), 1))]
+    [0, 1, 2]
     """
     return _told("max_n_body", a)
 

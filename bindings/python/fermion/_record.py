@@ -276,7 +276,7 @@ class Record:
         return bool(call("conserves_particle_number", self)[5])
 
     def max_n_body(self) -> int:
-        """The largest rank of a term, 0 for no terms."""
+        """The largest rank of a term, the larger of its creation and annihilation counts; 0 for no terms."""
         return call("max_n_body", self)[5]
 
     def active_modes(self) -> int:

@@ -121,7 +121,8 @@ class Report:
 
     @property
     def ranks(self) -> Tuple[Share, ...]:
-        """The terms of each rank and their weight: entry r, from 0 to 64, for rank r, as `max_n_body` has it.
+        """The terms of each rank and their weight: entry r, from 0 to 64, for rank r. The rank of a term is the larger of its
+        creation and annihilation counts, as in `max_n_body`.
 
         >>> Report.of([hopping(2, 0, 1), 7 * interaction(2, 0, 1)]).ranks[:3]
         (Share(terms=0, weight=0), Share(terms=2, weight=2), Share(terms=1, weight=7))

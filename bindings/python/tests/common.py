@@ -28,8 +28,8 @@ def branching(count):
 
 
 def rank(cre, ann):
-    """The rank of a term: half of its creations and annihilations, rounded down."""
-    return (bin(cre).count("1") + bin(ann).count("1")) // 2
+    """The rank of a term: the larger of its creation and annihilation counts."""
+    return max(bin(cre).count("1"), bin(ann).count("1"))
 
 
 def figures(batch):

@@ -246,7 +246,7 @@ class Operators(unittest.TestCase):
         mixed = Record.build(64, [(word(0, 1), 0, 1), (word(63), word(0, 2), 1)])
         self.assertFalse(fermion.conserves_particle_number(mixed))
         self.assertTrue(fermion.conserves_particle_number(EXAMPLE))
-        self.assertEqual((fermion.max_n_body(mixed), fermion.max_n_body(Record.build(1, []))), (1, 0))
+        self.assertEqual((fermion.max_n_body(mixed), fermion.max_n_body(Record.build(1, []))), (2, 0))
         self.assertEqual(fermion.active_modes(mixed), word(0, 1, 2, 63))
 
     def test_a_block_is_a_part_of_the_bytes_given(self):

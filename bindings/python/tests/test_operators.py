@@ -91,7 +91,7 @@ class Arithmetic(unittest.TestCase):
         mixed = Record.build(64, [(word(0, 1), 0, 1), (word(63), word(0, 2), 1)])
         self.assertEqual((mixed.is_hermitian(), mixed.conserves_particle_number()), (False, False))
         self.assertEqual((self.n0.is_hermitian(), self.n0.conserves_particle_number()), (True, True))
-        self.assertEqual((mixed.max_n_body(), mixed.active_modes(), mixed.weight), (1, word(0, 1, 2, 63), 2))
+        self.assertEqual((mixed.max_n_body(), mixed.active_modes(), mixed.weight), (2, word(0, 1, 2, 63), 2))
         self.assertEqual(mixed.adjoint(), Record.build(64, [(0, word(0, 1), -1), (word(0, 2), word(63), -1)]))
 
     @needs_numpy

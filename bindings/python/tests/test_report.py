@@ -57,6 +57,19 @@ class Examples(unittest.TestCase):
         self.assertEqual(repr(report), "Report(accepted=4, refused=0, terms=7, weight=22, largest=16, "
                          "ranks={0: (1, 9), 1: (3, 5), 2: (2, 7), 64: (1, 1)})")
 
+    def test_odd_terms_by_hand(self):
+        every = range(64)
+        terms = [((), (), 0), ((0,), (), 1), ((), (5,), 1), ((0, 1), (2,), 2), ((2,), (0, 1), 2), ((0, 1, 2), (), 3),
+                 ((), (0, 1, 2, 3, 4), 5), (every, (), 64), ((0,), every, 64), (every[1:], every, 64), (every[1:], (), 63)]
+        for cre, ann, rank in terms:
+            record = one(64, cre, ann, -3)
+            self.assertEqual(record.max_n_body(), rank)
+            self.assertEqual({r: share for r, share in enumerate(Report.of([record]).ranks) if any(share)}, {rank: (1, 3)})
+        self.assertEqual(str(Report.of(one(64, cre, ann, -3) for cre, ann, _ in terms)).split("\n")[2:], [
+            "rank 0: 1 term of weight 3", "rank 1: 2 terms of weight 6", "rank 2: 2 terms of weight 6",
+            "rank 3: 1 term of weight 3", "rank 5: 1 term of weight 3", "rank 63: 1 term of weight 3",
+            "rank 64: 3 terms of weight 9"])
+
     def test_the_largest_rank_is_that_of_max_n_body(self):
         rng = random.Random(SEED)
         for _ in range(100):

@@ -457,10 +457,12 @@ pub fn conserves_particle_number(a: &(impl AsRef<[u8]> + ?Sized)) -> Result<bool
     Ok(told(face::CONSERVES, a.as_ref())? == 1)
 }
 
-/// The largest rank of a term, 0 for no terms. Refusals: 1 to 5.
+/// The largest rank of a term, 0 for no terms. The rank is the larger of its creation and annihilation counts. Refusals: 1
+/// to 5.
 ///
 /// ```
 /// assert_eq!(fermion::max_n_body(&fermion::Record::build(4, [(3, 12, 1), (1, 1, 1)])?)?, 2);
+/// assert_eq!(fermion::max_n_body(&fermion::Record::build(1, [(1, 0, 1)])?)?, 1);
 /// # Ok::<(), fermion::Refusal>(())
 /// ```
 pub fn max_n_body(a: &(impl AsRef<[u8]> + ?Sized)) -> Result<u64, Refusal> {

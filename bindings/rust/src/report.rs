@@ -124,7 +124,8 @@ impl Report {
         self.numbers[5]
     }
 
-    /// The terms of one rank and their weight, the rank being that of [`crate::max_n_body`]. Above 64 there are none.
+    /// The terms of one rank and their weight. The rank of a term is the larger of its creation and annihilation counts, as in
+    /// [`crate::max_n_body`]. Above 64 there are none.
     ///
     /// ```
     /// use fermion::{Record, Report, Share};

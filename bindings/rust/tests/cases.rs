@@ -138,7 +138,7 @@ fn adjoints_and_figures() -> Result<(), Refusal> {
     assert!(fermion::is_hermitian(&EXAMPLE)? && !fermion::is_hermitian(&one(2, 1, 2, 1))?);
     let mixed = Record::build(64, [(word(&[0, 1]), 0, 1), (word(&[63]), word(&[0, 2]), 1)])?;
     assert!(fermion::conserves_particle_number(&EXAMPLE)? && !fermion::conserves_particle_number(&mixed)?);
-    assert_eq!(fermion::max_n_body(&mixed)?, 1);
+    assert_eq!(fermion::max_n_body(&mixed)?, 2);
     assert_eq!(fermion::active_modes(&mixed)?, word(&[0, 1, 2, 63]));
     Ok(())
 }

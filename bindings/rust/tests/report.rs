@@ -4,9 +4,9 @@ mod common;
 use common::{one, refusal, Draw, EXAMPLE};
 use fermion::{report_add, Counted, Reason, Record, Refusal, Report, Share, Term, MAX_REPORTED, REPORT};
 
-/// The rank of a term: half of its creations and annihilations, rounded down.
+/// The rank of a term: the larger of its creation and annihilation counts.
 fn rank(term: &Term) -> usize {
-    (term.cre.count_ones() + term.ann.count_ones()) as usize / 2
+    term.cre.count_ones().max(term.ann.count_ones()) as usize
 }
 
 /// Adds a term to its count and its weight, which has a high and a low.
@@ -260,6 +260,31 @@ fn every_step_of_a_batch() -> Result<(), Refusal> {
         known.push(terms);
         assert_eq!((report.numbers(), own), (&figures(&known), figures(&known)));
         report = Report::from_numbers(*report.numbers()); // stored and loaded
+    }
+    Ok(())
+}
+
+#[test]
+fn odd_terms_by_hand() -> Result<(), Refusal> {
+    let (all, most) = (u64::MAX, u64::MAX - 1);
+    let terms = [
+        (0, 0, 0),
+        (1, 0, 1),
+        (0, 32, 1),
+        (3, 4, 2),
+        (4, 3, 2),
+        (7, 0, 3),
+        (0, 31, 5),
+        (all, 0, 64),
+        (1, all, 64),
+        (most, all, 64),
+        (most, 0, 63),
+    ];
+    for (cre, ann, rank) in terms {
+        let (record, mut report) = (one(64, cre, ann, -3), Report::new());
+        report.add(&record)?;
+        assert_eq!((fermion::max_n_body(&record)?, report.rank(rank)), (rank, Share { terms: 1, weight: 3 }));
+        assert_eq!(report.terms(), 1);
     }
     Ok(())
 }

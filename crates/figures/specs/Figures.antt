@@ -1,5 +1,5 @@
 -- What the terms of a record have in common: particle conservation, the largest rank, the active modes.
-use Prim.Native.Nat.{ℕ, _+_, _/_, max}
+use Prim.Native.Nat.{ℕ, max}
 use mathlib.Core.Bool.{Bool, true, false, _&&_}
 use mathlib.Core.List.{List, [], _∷_}
 use lib.Bits.{bitOr}
@@ -22,9 +22,9 @@ unfoldable pub conserving : List Term → Bool
 conserving [] = true
 conserving (t ∷ ts) = conserves t && conserving ts
 
--- the rank of a term: creations plus annihilations, halved, rounded down
+-- the rank of a term: the larger of its creation and annihilation counts
 unfoldable pub rankOf : Term → ℕ
-rankOf t = (creations t + annihilations t) / 2
+rankOf t = max (creations t) (annihilations t)
 
 -- the largest rank, 0 for no terms
 unfoldable pub largestRank : List Term → ℕ

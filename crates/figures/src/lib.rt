@@ -3,7 +3,7 @@ use modes::Refusal;
 use modes::Term;
 use record::Tested;
 ghost use mathlib.Core.Path.{_≡_};
-ghost use Prim.Native.Nat.{_+_, _≤_, max};
+ghost use Prim.Native.Nat.{_≤_, max};
 ghost use Rattle.record.specs.Layout.{termsIn};
 ghost use Rattle.record.specs.Reading.{Holds};
 ghost use Rattle.record.specs.Operands.{readAs};
@@ -15,11 +15,20 @@ pub struct Measured {
     pub value: u64,
 }
 
-// The rank of a term: creations plus annihilations, halved, rounded down.
+// The larger of two counts of modes, told by a bit of their difference: the compiler counts the modes of two words at once where
+// they are subtracted, and one after the other where they are compared.
+fn larger_count(x: u64, y: u64) -> u64
+    requires { ⌜ (x ≤ 64) × (y ≤ 64) ⌝ }
+    ensures { λ r. ⌜ r ≡ max x y ⌝ }
+{
+    if (x + 256 - y) / 128 % 2 == 0 { x } else { y }
+}
+
+// The rank of a term: the larger of its creation and annihilation counts.
 pub fn rank(t: Term) -> u64
     ensures { λ r. ⌜ (r ≡ rankOf t) × (r ≤ 64) ⌝ }
 {
-    (modes::modes_in(t.cre) + modes::modes_in(t.ann)) / 2
+    larger_count(modes::modes_in(t.cre), modes::modes_in(t.ann))
 }
 
 fn is_conserving(t: Term) -> bool
