@@ -18,7 +18,7 @@ enum { BATCH = 512, IN_TURN = 16 * TERMS }; /* the most records of a batch, and 
 #define CALLS(X)                                                                                                            \
     X(apply) X(mul_cmpnts) X(check) X(add) X(sub) X(branches) X(mul) X(commutator) X(anticommutator) X(adjoint)             \
     X(is_hermitian) X(max_n_body) X(block) X(element) X(mat_ortho_projected) X(compare) X(mat_elem_real)
-#define LATER(X) X(report_add) /* what an older library lacks: NULL there, and its lines are left out */
+#define LATER(X) X(report_add) X(import) X(export) /* what an older library lacks: NULL there, and its lines are left out */
 
 struct library {
 #define POINTER(name) __typeof__(fermion_##name) *name;
@@ -43,6 +43,8 @@ static uint8_t *batched[BATCH];
 static size_t batch_len[BATCH];
 static int n_batch;
 static double floats[TERMS], value[2];
+static uint8_t text[FERMION_MAX_TEXT];
+static size_t text_len;
 static int64_t matrix[64];
 static uint64_t seed = 20261115;
 
@@ -228,6 +230,8 @@ static void run_batch_report(void)
     for (int i = 0; i < n_batch; i++)
         lib->report_add(batched[i], batch_len[i], report, answer);
 }
+static void run_import(void) { lib->import(64, text, text_len, work, work_len, out, RECORD, answer); }
+static void run_export(void) { lib->export(one, one_len, text, sizeof text, answer); }
 static void run_block(void) { lib->block(one, one_len, ket, answer); }
 static void run_element(void) { lib->element(one, one_len, bra, ket, answer); }
 static void run_matrix(void) { lib->mat_ortho_projected(one, one_len, basis, 8, matrix, answer); }
@@ -380,6 +384,31 @@ static void apply_each(void)
     line("apply", "two-body terms, 64 modes, a mode is occupied", run_apply_each, 1000);
 }
 
+/* The record as text, and, where that is named, back from the text. */
+static void through_text(const char *out_on, const char *in_on)
+{
+    for (int i = 0; i < n_libraries; i++)
+        if (libraries[i].import == NULL || libraries[i].export == NULL)
+            return;
+    line("export", out_on, run_export, 1);
+    run_export();
+    text_len = answer[3];
+    if (in_on != NULL)
+        line("import", in_on, run_import, 1);
+}
+
+/* Lines of 12 ladders whose 6 modes all branch, as many as a work of 2^24 bytes holds. */
+static void branching_lines(void)
+{
+    for (int i = 0; i < n_libraries; i++)
+        if (libraries[i].import == NULL)
+            return;
+    text_len = 0;
+    for (int i = 0; i < 85; i++)
+        text_len += (size_t)sprintf((char *)text + text_len, "1 %d_ 0_ 1_ 2_ 3_ 4_ %d^ 0^ 1^ 2^ 3^ 4^\n", 5 + i % 50, 5 + i % 50);
+    line("import", "85 lines of 12 ladders, 64 terms each, a work of 2^24 bytes", run_import, 1);
+}
+
 static void merge_two(const char *on)
 {
     line("compare", on, run_compare, 1);
@@ -419,6 +448,9 @@ int main(int argc, char **argv)
     one_len = two_body(one, 64, TERMS);
     read_one("2,048 two-body terms, 64 modes");
     apply_each();
+    work_len = WORK;
+    through_text("2,048 two-body terms, 64 modes", "2,048 two-body lines, 64 modes, a work of 2^24 bytes");
+    work_len = 65520;
     memcpy(two, one, two_len = one_len);
     merge_two("2,048 two-body terms each, alike");
     one_len = two_body(one, 64, 1024), two_len = two_body(two, 64, 1024);
@@ -433,6 +465,7 @@ int main(int argc, char **argv)
     one_len = nearly_all(one, TERMS, 1, 1);
     memcpy(two, one, two_len = one_len);
     read_one("worst: 2,048 terms {w\\|w} of 62 or 63 modes");
+    through_text("worst: 2,048 terms {w\\|w} of 62 or 63 modes", NULL);
     merge_two("worst: these twice");
     multiply_two("worst: these twice, a work of 65,520 bytes");
     work_len = WORK;
@@ -458,6 +491,8 @@ int main(int argc, char **argv)
     work_len = 96;
     line("mul_cmpnts", "two two-body terms, 4 rows, an output of 96 bytes", run_mul_cmpnts, 1);
 
+    work_len = WORK;
+    branching_lines();
     count_batches();
     return 0;
 }

@@ -7,7 +7,7 @@
  *
  * - It takes any bytes and numbers, checks them itself, ends, and fills `answer` whole, on success and on refusal:
  *     answer[0]  number of the refusal, 0 where the call is not refused (enum fermion_refusal)
- *     answer[1]  operand of the refusal, else 0: 1 the first record or the list of terms, 2 the second record,
+ *     answer[1]  operand of the refusal, else 0: 1 the first record, the list of terms or the text, 2 the second record,
  *                3 the bra or the basis, 4 the ket, 0 none of them
  *     answer[2]  place of the refusal, counted from 0, else 0
  *     answer[3]  length in bytes of what stands in `out`, 0 where there is no output or a refusal
@@ -23,7 +23,7 @@
  *   does not matter what they held before. What is only read is never changed; and nobody else changes it while the
  *   call runs, no thread and no process: memory that a tenant can still write to is copied first.
  *
- * - A slice is a pointer and then a length in elements. Records, `out` and `work` may start at any address; what
+ * - A slice is a pointer and then a length in elements. Records, texts, `out` and `work` may start at any address; what
  *   points to uint64_t, int64_t or double is aligned for it. The records of one call may be the same memory (A times
  *   A); nothing that is lent for writing overlaps anything else. A slice of length 0 may be a null pointer: nothing
  *   is read or written through it, since the compiled code assumes nothing of a slice's pointer and reaches only
@@ -53,26 +53,30 @@
 #define FERMION_MAX_BASIS 8                              /* words of a matrix' basis */
 #define FERMION_REPORT 201                               /* numbers of a report */
 #define FERMION_MAX_REPORTED 1024                        /* records that a report counts, refused ones among them */
+#define FERMION_MAX_LADDERS 12                           /* ladders of a line of text that is imported */
+#define FERMION_MAX_TEXT 1048576                         /* bytes, 2^20: no exported text is longer */
 #define FERMION_MAX_STACK 16384                          /* bytes of stack that a call needs */
 
 /* answer[0]. docs/RECORD.md has each in full. */
 enum fermion_refusal {
     FERMION_OK = 0,                  /* not refused */
     FERMION_MALFORMED = 1,           /* header, length, modes (1 to 64), terms (up to 2,048) or lengths of lists */
-    FERMION_WORD_OUTSIDE = 2,        /* a word of a term is outside the modes */
+    FERMION_WORD_OUTSIDE = 2,        /* a word of a term, or a mode of a line, is outside the modes */
     FERMION_OUT_OF_ORDER = 3,        /* a term does not stand above the one before it */
     FERMION_ZERO_COEFF = 4,          /* a coefficient is zero */
     FERMION_TOO_HEAVY = 5,           /* the weight is above 2^60 */
     FERMION_MODES_DIFFER = 6,        /* the mode counts of the two records differ */
     FERMION_ROWS_DO_NOT_FIT = 7,     /* the rows, 24 bytes each, do not fit into the work or the output */
-    FERMION_PRODUCT_TOO_HEAVY = 8,   /* the product of the two weights is above 2^60 */
+    FERMION_PRODUCT_TOO_HEAVY = 8,   /* the product of the two weights, or what the lines may weigh, is above 2^60 */
     FERMION_RESULT_TOO_HEAVY = 9,    /* the weight of the result is above 2^60 */
     FERMION_TOO_MANY_TERMS = 10,     /* the result has more than 2,048 terms */
-    FERMION_OUTPUT_TOO_SHORT = 11,   /* the output is shorter than the record of the result */
+    FERMION_OUTPUT_TOO_SHORT = 11,   /* the output is shorter than the record or the text of the result */
     FERMION_OCCUPATION_OUTSIDE = 12, /* a bra, a ket or a basis word is outside the modes */
     FERMION_NOT_FINITE = 13,         /* a float coefficient or a running sum is not finite */
     FERMION_BAD_BASIS = 14,          /* the basis has more than 8 words, or a word twice */
-    FERMION_BAD_REPORT = 15          /* the report counts 1,024 records, or one of its numbers is above its limit */
+    FERMION_BAD_REPORT = 15,         /* the report counts 1,024 records, or one of its numbers is above its limit */
+    FERMION_BAD_LINE = 16,           /* a line breaks the grammar of ladder text */
+    FERMION_TOO_MANY_LADDERS = 17    /* a line has more than 12 ladders */
 };
 
 /* answer[6] of fermion_apply where a term gives Zero; answer[7] is the lowest such mode. */
@@ -140,6 +144,25 @@ void fermion_active_modes(const uint8_t *a, size_t a_len, uint64_t answer[8]);
  * 1,024 or more, or where of the total or of a rank the terms are above 2^21, the high is above 1,024 or the low is not
  * below 2^60; the report is then left as it was, and the record is not looked at. */
 void fermion_report_add(const uint8_t *a, size_t a_len, uint64_t report[201], uint64_t answer[8]);
+
+/* The record, on m modes, of an operator written as ladder text: the sum of all lines, each multiplied out. A line is an
+ * optional minus, a number, then for each ladder one space, a mode and ^ (create) or _ (annihilate), then a line feed
+ * (byte 10); the rightmost ladder acts first. A number or a mode is 0, or digits without a leading zero, of any length;
+ * -0 is 0. Nothing else is a line. A text that is not empty and does not end in a line feed breaks the grammar in its
+ * last line; the empty text has no lines and gives the record without terms. Refusals: MALFORMED where m is not 1 to 64
+ * (operand 1); for each line in turn, the place being the line, BAD_LINE, WORD_OUTSIDE where a mode is not below m
+ * (operand 1), TOO_MANY_LADDERS; then over all lines PRODUCT_TOO_HEAVY where the magnitudes of the coefficients, each
+ * times 2 to the number of its ladders, sum to more than 2^60, ROWS_DO_NOT_FIT where 48 times the sum of 2 to the number
+ * of ladders is more than work_len; TOO_MANY_TERMS, OUTPUT_TOO_SHORT. Both sums are exact, and lines that vanish count.
+ * An output of FERMION_MAX_RECORD bytes is never too short. */
+void fermion_import(uint64_t m, const uint8_t *text, size_t text_len,
+                    uint8_t *work, size_t work_len, uint8_t *out, size_t out_len, uint64_t answer[8]);
+
+/* The record as ladder text: one line a term, in the record's order, with its creations ascending and then its
+ * annihilations ascending. No terms give the empty text. Importing the text under the same m gives back the record's
+ * bytes, where it is not refused. Refusals: the record, OUTPUT_TOO_SHORT. An output of FERMION_MAX_TEXT bytes is never
+ * too short. */
+void fermion_export(const uint8_t *a, size_t a_len, uint8_t *out, size_t out_len, uint64_t answer[8]);
 
 /* The stretch of the creation column for one annihilation word: [5] its offset in the record's bytes, [6] its
  * length in bytes; both 0 for the empty part: no such word, a word outside the modes, or a record that isn't

@@ -24,14 +24,15 @@ KNOWN = {
     "h2o.fcidump": ("-74.962928246499", "-75.012403658956", 441, 14),
 }
 CLOSE = 1e-9
+OTHER = os.path.join(EXAMPLES, "example.c")  # a file that no program asks for
 
 
 def run(program, *args, python=(sys.executable,), **changed):
     """A run of an example, the environment changed by these names; None takes a name away."""
     env = {**os.environ, "PYTHONPATH": PACKAGE, **changed}
     env = {name: value for name, value in env.items() if value is not None}
-    with open(os.path.join(EXAMPLES, "hop.record"), "rb") as record:
-        return subprocess.run([*python, program, *args], stdin=record, capture_output=True, text=True, timeout=MOST, env=env)
+    with open(OTHER, "rb") as unasked:
+        return subprocess.run([*python, program, *args], stdin=unasked, capture_output=True, text=True, timeout=MOST, env=env)
 
 
 def example(name):
@@ -155,7 +156,7 @@ def check_help(tally, _):
     """What a program is for, also where there is no library."""
     for program, words in (("molecule.py", "full configuration interaction"), ("fcidump.py", "the integrals of a molecule")):
         for asked in (["--help"], ["-h"], ["none.fcidump", "--help"]):
-            ran = run(example(program), *asked, FERMION_LIB=example("hop.record"))
+            ran = run(example(program), *asked, FERMION_LIB=OTHER)
             told = ran.returncode, ran.stderr, words in ran.stdout, f"examples/{program} [FILE..]" in ran.stdout
             tally.same(f"{program} asked for help", told, (0, "", True, True), shown(ran))
 
@@ -271,7 +272,7 @@ def check_missing(tally, folder):
         print(f"  {name}, no library and no rt: {ran.stderr.strip()}")
         told = said(ran, "tools/shared_object.sh", "rt, which is not")
         tally.same(f"{name} without a library and rt", told, True, shown(ran))
-    for what, path in (("not a library", example("hop.record")), ("another library", _ctypes.__file__)):
+    for what, path in (("not a library", OTHER), ("another library", _ctypes.__file__)):
         ran = run(example("hydrogen.py"), FERMION_LIB=path)
         print(f"  hydrogen.py, {what}: {ran.stderr.strip()}")
         tally.same(f"hydrogen.py with {what}", said(ran, path), True, shown(ran))

@@ -23,7 +23,6 @@ WORK, ROOM = 65520, 49184
 LONGEST = 2 * ROOM  # bytes of an input that may be accepted
 STORED = os.path.join(face.ROOT, "tests", "answers", "program.txt")
 RUN = os.path.join(face.ROOT, "tools", "run.sh"), "commutator"
-PRINT = sys.executable, os.path.join(face.ROOT, "examples", "print_record.py")
 MOST = 60  # seconds for one run
 
 
@@ -182,16 +181,8 @@ def check_stored(program):
 
 
 def check_example(program):
-    """The specification's example, and the README's, in words."""
-    with open(os.path.join(face.ROOT, "examples", "hop.record"), "rb") as one, \
-            open(os.path.join(face.ROOT, "examples", "back.record"), "rb") as two:
-        data = one.read() + two.read()
-    program.judge("the example of the README", data, records.EXAMPLE)
-    for said, text in ((whole(data)[1], "2 modes, 2 terms\n       1  {0|0}\n      -1  {1|1}\n"),
-                       (whole(b"")[1], "refused with 1: first record: the header, the length, the mode count (1 to 64), the number of terms "
-                                        "(at most 2,048) or the lengths of the lists break the rules\n")):
-        printed = subprocess.run(PRINT, input=said, capture_output=True, timeout=MOST).stdout.decode()
-        program.tally.same("the example's script prints the reply in words", printed, text, said)
+    """The specification's example: a hop from mode 1 to mode 0, and the hop back."""
+    program.judge("the specification's example", records.encode(2, [(2, 1, 1)]) + records.encode(2, [(1, 2, 1)]), records.EXAMPLE)
 
 
 # Drawn inputs

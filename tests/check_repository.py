@@ -196,7 +196,7 @@ def the_readme_names_every_crate():
 
 def the_readme_shows_what_its_commands_print():
     """A block of commands that begins so is run as it stands, and the block after it is the end of what it prints."""
-    begins = "rt check commutator && ", "PYTHONPATH=bindings/python python3 -c "
+    begins = "rt check import_text commutator export_text &&", "PYTHONPATH=bindings/python python3 -c "
     blocks = [textwrap.dedent(block) for block in re.findall(r"(?:^    .*\n)+", text("README.md"), re.M)]
     faults, ran = [], 0
     for command, shown in zip(blocks, blocks[1:]):

@@ -1,20 +1,17 @@
 #!/usr/bin/env python3
-"""The scripts of tools/ and the printing example, on what goes wrong around them: a build that fails, a tool that is not
-there, no argument, bytes that are no record. The scripts run in a copy of a few files, with stand-ins for the toolchain and
-the compiler, so the library of this repository is not touched."""
+"""The scripts of tools/, on what goes wrong around them: a build that fails, a tool that is not there, no argument. The
+scripts run in a copy of a few files, with stand-ins for the toolchain and the compiler, so the library of this repository is
+not touched."""
 import glob
 import hashlib
 import os
 import re
 import shutil
-import struct
 import subprocess
-import sys
 import tempfile
 import time
 
 ROOT = os.path.dirname(os.path.dirname(os.path.abspath(__file__)))
-PRINT = os.path.join(ROOT, "examples", "print_record.py")
 OLD = b"a library that was built before"
 COMMANDS = """bash sh env dirname basename realpath readlink mkdir sed cat sha256sum find sort head tail mktemp rm mv cp ln
     chmod flock grep tee touch sleep""".split()
@@ -223,7 +220,7 @@ def without_gcc_a_sentence_says_so():
 
 def without_an_argument_a_sentence_says_how():
     faults, run, install = [], "tools/run.sh", "tools/install.sh"
-    for words in [run], [run, ""], [run, "a", "b"], [install], [install, ""], [install, "a", "b"], [install, "--prefix=a"]:
+    for words in [run], [run, ""], [run, "", "b"], [install], [install, ""], [install, "a", "b"], [install, "--prefix=a"]:
         with Copy(rt=RT, gcc=GCC) as copy:
             status, out, err = copy.run(*words)
             said = not out and one_sentence(err, "usage: " + words[0])
@@ -248,86 +245,15 @@ def a_program_that_is_not_there():
     return [] if status != 0 and not out and one_sentence(err, "rt check commutator") else [f"{status} {out!r} {err!r}"]
 
 
-# examples/print_record.py
-
-def record(m, *terms, header=()):
-    """A record of (annihilation word, creation word, coefficient), with other numbers at some places of its header."""
-    n = len(terms)
-    numbers = [1, m, n, 32, 32 + 8 * n, 32 + 16 * n, 32 + 24 * n, 0]
-    for place, number in header:
-        numbers[place] = number
-    ann, cre, coeff = zip(*terms) if terms else ((), (), ())
-    return struct.pack(f"<8I{2 * n}Q{n}q", *numbers, *ann, *cre, *coeff)
-
-
-def printed(data, *words):
-    run = subprocess.run([sys.executable, PRINT, *words], input=data, capture_output=True, timeout=60)
-    return run.returncode, run.stdout.decode(), run.stderr.decode()
-
-
-def sentences():
-    """The refusals in words, by number."""
-    with open(os.path.join(ROOT, "docs", "RECORD.md"), encoding="utf-8") as file:
-        section = file.read().split("\n## Refusals\n")[1]
-    return {int(number): words for number, words in re.findall(r"^\| (\d+) \| ([^|]+) \|", section, re.M)}
-
-
-def a_record_and_a_reply_are_printed():
-    faults, words = [], sentences()
-    expected = [
-        (record(2, (1, 1, 1), (2, 2, -1)), "2 modes, 2 terms\n       1  {0|0}\n      -1  {1|1}\n"),
-        (record(64), "64 modes, 0 terms\n"),
-        (record(1, (1, 0, -2 ** 60)), "1 mode, 1 term\n-1152921504606846976  {|0}\n"),
-        (record(64, (2 ** 63, 5, 7)), "64 modes, 1 term\n       7  {0,2|63}\n"),
-        (b"refused 6 0 0\n", f"refused with 6: {words[6]}\n"),
-        (b"refused 1 2 0\n", f"refused with 1: second record: {words[1]}\n"),
-        (b"refused 3 1 2047\n", f"refused with 3: first record: {words[3]}, at term 2047 counted from 0\n"),
-    ]
-    for data, lines in expected:
-        got = printed(data)
-        expect(faults, got == (0, lines, ""), f"{data[:40]!r}: {got}, expected {lines!r}")
-    return faults
-
-
-def other_bytes_are_named_in_a_sentence():
-    faults, good = [], record(2, (1, 1, 1))
-    others = [b"", b"x", b"abc\n", good[:31], good[:55], good + b"\0", good + good, bytes(32), bytes(100), b"\xff" * 60,
-              record(0), record(65), record(2 ** 32 - 1), b"refused", b"refused \n", b"refused 1\n", b"refused 0 0 0\n",
-              b"refused 99 0 0\n", b"refused 1 9 0\n", b"refused \xff\xfe 1\n", b"refused 1 1 0\nrefused 1 1 0\n",
-              "refused \u0661 1 0\n".encode()]
-    others += [record(2, (1, 1, 1), header=[(place, number)]) for place in range(8) for number in (2 ** 32 - 1, 70)]
-    others += [record(2, header=[(2, 2049), (4, 32 + 8 * 2049), (5, 32 + 16 * 2049), (6, 32 + 24 * 2049)]) + bytes(24 * 2049)]
-    for data in others:
-        status, out, err = printed(data)
-        said = not out and one_sentence(err, "print_record.py: standard input: ")
-        expect(faults, status == 1 and said, f"{data[:40]!r}: {status} {out!r} {err[-300:]!r}")
-    return faults
-
-
-def files_that_cannot_be_read_are_named():
-    faults, good = [], os.path.join(ROOT, "examples", "hop.record")
-    with tempfile.TemporaryDirectory() as folder:
-        for path in os.path.join(folder, "none"), folder, "":
-            status, out, err = printed(b"", path)
-            said = not out and one_sentence(err, f"print_record.py: {path}: ")
-            expect(faults, status == 1 and said, f"{path!r}: {status} {out!r} {err!r}")
-        status, out, err = printed(b"", os.path.join(folder, "none"), good)
-        said = out == "2 modes, 1 term\n       1  {0|1}\n" and one_sentence(err, "none")
-        expect(faults, status == 1 and said, f"the next one: {status} {out!r} {err!r}")
-    return faults
-
-
-def the_printer_gives_help():
-    return [f"{word}: {got}" for word in ("--help", "-h") for got in [printed(b"", word)]
-            if got[0] != 0 or "examples/print_record.py FILE" not in got[1] or got[2]]
-
-
-def the_printers_sentences_are_the_documents():
-    faults, words = [], sentences()
-    for number in range(1, 12):
-        got = printed(b"refused %d 0 0\n" % number)
-        same = got[0] == 0 and got[1].startswith(f"refused with {number}: {words[number]}")
-        expect(faults, same, f"{number}: {got[1]!r}, expected {words[number]!r}")
+def the_arguments_are_the_programs():
+    faults, loader = [], "../on/x86_64/toolchain/lib/ld-linux-x86-64.so.2"
+    for words in [], ["2"], ["a word", "", "*", "--help"]:
+        with Copy(rt=RT) as copy:
+            for path, text in (("target/bin/program", b""), (loader, b'#!/bin/sh\nshift 2\nprintf "%s|" "$@"\n')):
+                copy.write(path, text)
+                os.chmod(os.path.join(copy.root, path), 0o755)
+            got = copy.run("tools/run.sh", "program", *words)
+            expect(faults, got == (0, "|".join(["target/bin/program", *words, ""]), ""), f"{words}: {got}")
     return faults
 
 
@@ -357,9 +283,8 @@ TESTS = [
     a_proof_that_fails_leaves_the_library, a_link_that_fails_leaves_the_library, a_build_replaces_the_library_and_says_which,
     what_is_built_is_not_built_again, a_library_that_was_changed_is_built_again, a_tree_that_was_moved_names_its_own_library,
     a_library_under_the_loaders_name_and_a_relative_path, it_shows_what_it_does_while_it_does_it, without_rt_a_sentence_says_so, without_gcc_a_sentence_says_so,
-    without_an_argument_a_sentence_says_how, help_is_given, a_program_that_is_not_there, a_record_and_a_reply_are_printed,
-    other_bytes_are_named_in_a_sentence, files_that_cannot_be_read_are_named, the_printer_gives_help,
-    the_printers_sentences_are_the_documents, every_script_can_be_read_by_its_shell,
+    without_an_argument_a_sentence_says_how, help_is_given, a_program_that_is_not_there, the_arguments_are_the_programs,
+    every_script_can_be_read_by_its_shell,
 ]
 
 

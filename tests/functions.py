@@ -1,6 +1,7 @@
 """The functions of the C face, one row each: its model, what it takes, and the test that meets every refusal of it.
 
-A function more is one row here, its model in records.py, and its draws in the test that the row names.
+A function more is one row here, its model in records.py or, of ladder text, in ladder_text.py, and its draws in the test that
+the row names.
 
 A call and a model have the same arguments, in the header's order: a number; bytes, or a list of words, that are only read;
 the length of what is lent for writing; what memory that is read and changed holds before the call. An array that is only
@@ -9,6 +10,7 @@ written has no argument. The model's answer has the whole contents, after the ca
 import collections
 import ctypes
 
+import ladder_text
 import records
 
 
@@ -75,6 +77,8 @@ FACE = {
     "max_n_body": Row(records.max_n_body, FIGURE, "check_records.py"),
     "active_modes": Row(records.active_modes, FIGURE, "check_records.py"),
     "report_add": Row(records.report_add, (READ, array_changed(201)), "check_report.py"),
+    "import": Row(ladder_text.import_, (NUMBER, READ, WRITTEN, WRITTEN), "check_text.py"),
+    "export": Row(ladder_text.export, (READ, WRITTEN), "check_text.py"),
     "block": Row(records.block, (READ, NUMBER), "check_records.py"),
     "element": Row(records.element, (READ, NUMBER, NUMBER), "check_elements.py"),
     "mat_ortho_projected": Row(records.mat_ortho_projected, (READ, READ_WORDS, array_written(64)), "check_elements.py"),

@@ -1,17 +1,17 @@
 #!/usr/bin/env bash
-# tools/run.sh NAME: runs the proved program target/bin/NAME, under the toolchain's loader, and under its emulator where
-# the machine is no x86-64. Standard input and output are the program's own.
+# tools/run.sh NAME [ARGUMENT..]: runs the proved program target/bin/NAME, under the toolchain's loader, and under its
+# emulator where the machine is no x86-64. The arguments, standard input and output are the program's own.
 set -euo pipefail
 cd "$(dirname "$(readlink -f "$0")")/.."
 say() { echo "tools/run.sh: $1" >&2; }
-usage="usage: tools/run.sh NAME, a program that 'rt check NAME' has proved, as in tools/run.sh commutator <two-records"
+usage="usage: tools/run.sh NAME [ARGUMENT..], a program that 'rt check NAME' has proved, as in tools/run.sh commutator <two-records"
 case ${1:-} in
 -h | --help)
     echo "$usage"
     exit
     ;;
 esac
-if [ $# -ne 1 ] || [ -z "$1" ]; then
+if [ $# -eq 0 ] || [ -z "$1" ]; then
     say "$usage"
     exit 2
 elif ! command -v rt >/dev/null; then
@@ -25,4 +25,4 @@ home=$(cd "$(dirname "$(readlink -f "$(command -v rt)")")/.." && pwd -P)
 tools=$home/on/$(uname -m)/toolchain
 emulator=$tools/bin/qemu-x86_64
 [ -x "$emulator" ] || emulator=
-exec $emulator "$tools/lib/ld-linux-x86-64.so.2" --library-path "$tools/lib" "target/bin/$1"
+exec $emulator "$tools/lib/ld-linux-x86-64.so.2" --library-path "$tools/lib" "target/bin/$1" "${@:2}"

@@ -33,7 +33,7 @@ static const uint8_t other[32] = {1, 0, 0, 0, 3, 0, 0, 0, 0, 0, 0, 0, 32, 0, 0, 
 
 /* an output between guards, full of garbage before the call */
 struct room {
-    uint8_t before[16], out[128], after[16];
+    uint8_t before[16], out[2048], after[16];
 };
 
 static struct guarded answer_of(uint64_t number, uint64_t operand, uint64_t len, uint64_t rows, uint64_t x, uint64_t y,
@@ -420,6 +420,82 @@ static struct tally check_report(void)
     return t;
 }
 
+/* The example's text, and as the commutator that it is, written out; then 7 and 11 by a byte, 1, 16 for a line feed too few and
+ * for another grammar, 2 and 17, each at its line, and 8. No lines are no terms. A ladder that comes twice gives nothing. */
+static struct tally check_import(void)
+{
+    struct tally t = {"fermion_import", 0, 0};
+    static const char text[] = "1 0^ 0_\n-1 1^ 1_\n", hops[] = "1 0^ 1_ 1^ 0_\n-1 1^ 0_ 0^ 1_\n";
+    const struct guarded whole = answer_of(0, 0, 80, 0, 0, 0, 0), empty = answer_of(0, 0, 32, 0, 0, 0, 0);
+    const struct {
+        uint64_t m;
+        const char *text;
+        size_t work, room;
+        const uint8_t *bytes;
+        struct guarded answer;
+        uint64_t place;
+    } calls[] = {
+        {2, text, 384, 80, example, whole, 0},
+        {2, text, 2048, 99, example, whole, 0},
+        {2, hops, 1536, 80, example, whole, 0},
+        {2, "-1 1^ 1_\n2\n-2\n1 0^ 0_\n", 480, 80, example, whole, 0},
+        {2, "", 0, 32, none, empty, 0},
+        {2, "-0 0^\n0\n7 1^ 1^\n5 0_ 1_ 0_\n", 720, 32, none, empty, 0},
+        {2, text, 383, 80, none, answer_of(7, 0, 0, 0, 0, 0, 0), 0},
+        {2, text, 384, 79, none, answer_of(11, 0, 0, 0, 0, 0, 0), 0},
+        {0, text, 384, 80, none, answer_of(1, 1, 0, 0, 0, 0, 0), 0},
+        {65, "", 384, 80, none, answer_of(1, 1, 0, 0, 0, 0, 0), 0},
+        {2, "1 0^ 0_\n-1 1^ 1_", 384, 80, none, answer_of(16, 0, 0, 0, 0, 0, 0), 1},
+        {2, "1\n1\n+1 9^\n", 384, 80, none, answer_of(16, 0, 0, 0, 0, 0, 0), 2},
+        {2, "1\n1 0^ 2_\n01\n", 384, 80, none, answer_of(2, 1, 0, 0, 0, 0, 0), 1},
+        {2, "1 18446744073709551616^\n", 384, 80, none, answer_of(2, 1, 0, 0, 0, 0, 0), 0},
+        {2, "1 0^ 0^ 0^ 0^ 0^ 0^ 0^ 0^ 0^ 0^ 0^ 0^ 0^\n", 384, 80, none, answer_of(17, 0, 0, 0, 0, 0, 0), 0},
+        {2, "576460752303423489 0^\n", 0, 0, none, answer_of(8, 0, 0, 0, 0, 0, 0), 0},
+        {2, "1\n18446744073709551616\n", 384, 80, none, answer_of(8, 0, 0, 0, 0, 0, 0), 0},
+    };
+    for (size_t i = 0; i < sizeof calls / sizeof calls[0]; i++) {
+        struct guarded told = calls[i].answer;
+        told.answer[2] = calls[i].place;
+        struct left got = before_call(), work = before_call(), expected = expected_left(got, calls[i].room, calls[i].bytes, told);
+        struct room clean = work.lent;
+        memset(clean.out, 0, calls[i].work);
+        fermion_import(calls[i].m, (const uint8_t *)calls[i].text, strlen(calls[i].text), work.lent.out, calls[i].work,
+                       got.lent.out, calls[i].room, got.answer.answer);
+        compare(&t, &got, &expected, sizeof got);
+        compare(&t, &work.lent, &clean, sizeof clean);
+    }
+    return t;
+}
+
+/* The example as text, with an output exactly right, to spare and a byte short; a byte less of it is refused with 1. No terms
+ * are no text. Creations come first, also where their modes are higher. */
+static struct tally check_export(void)
+{
+    struct tally t = {"fermion_export", 0, 0};
+    static const char text[] = "1 0^ 0_\n-1 1^ 1_\n";
+    static const int8_t terms[][3] = {{1, 2, -120}, {3, 3, 7}};
+    uint8_t two[80];
+    record_of(two, 2, terms);
+    const struct {
+        const uint8_t *a;
+        size_t len, room;
+        const char *text;
+        struct guarded answer;
+    } calls[] = {
+        {example, 80, 17, text, answer_of(0, 0, 17, 0, 0, 0, 0)}, {example, 80, 99, text, answer_of(0, 0, 17, 0, 0, 0, 0)},
+        {example, 80, 16, "", answer_of(11, 0, 0, 0, 0, 0, 0)},   {example, 79, 17, "", answer_of(1, 1, 0, 0, 0, 0, 0)},
+        {none, 32, 0, "", answer_of(0, 0, 0, 0, 0, 0, 0)},        {none, 32, 9, "", answer_of(0, 0, 0, 0, 0, 0, 0)},
+        {two, 80, 40, "-120 1^ 0_\n7 0^ 1^ 0_ 1_\n", answer_of(0, 0, 25, 0, 0, 0, 0)},
+    };
+    for (size_t i = 0; i < sizeof calls / sizeof calls[0]; i++) {
+        const uint8_t *right = (const uint8_t *)calls[i].text;
+        struct left got = before_call(), expected = expected_left(got, calls[i].room, right, calls[i].answer);
+        fermion_export(calls[i].a, calls[i].len, got.lent.out, calls[i].room, got.answer.answer);
+        compare(&t, &got, &expected, sizeof got);
+    }
+    return t;
+}
+
 /* The specification's cases 9 to 13, with what blocks the two that give Zero; then modes 0 and 63 that are missing or still
  * occupied, alone and with others above them, a missing mode above an occupied one, and the examples of docs/RECORD.md. */
 static struct tally check_apply(void)
@@ -523,6 +599,8 @@ void check_examples(int *passed, int *failed)
         check_max_n_body(),
         check_test("fermion_active_modes", fermion_active_modes, 3, 0, 0),
         check_report(),
+        check_import(),
+        check_export(),
         check_stretches(),
         check_element(),
         check_mat_elem("fermion_mat_elem_real", false),

@@ -59,6 +59,8 @@ uint64_t answer[8], cre[FERMION_MAX_TERMS], ann[FERMION_MAX_TERMS], basis[8];
 uint64_t report[FERMION_REPORT], full_report[FERMION_REPORT] = {FERMION_MAX_REPORTED};
 int64_t matrix[64];
 double re[FERMION_MAX_TERMS], im[FERMION_MAX_TERMS], value[2];
+uint8_t text[FERMION_MAX_TEXT], exported[FERMION_MAX_TEXT], *lines_work;
+size_t text_len, lines_work_len;
 
 static void put(uint8_t *at, uint64_t number, int length)
 {
@@ -87,6 +89,55 @@ static size_t with_order(uint8_t *to, const uint64_t *order, size_t n)
         cre[i] = order[i];
     }
     return record(to, 64, n);
+}
+
+static void no_lines(void)
+{
+    text_len = lines_work_len = 0;
+    free(lines_work);
+    lines_work = 0;
+}
+
+static void put_ladder(unsigned mode, uint8_t kind)
+{
+    text[text_len++] = ' ';
+    if (mode > 9)
+        text[text_len++] = (uint8_t)('0' + mode / 10);
+    text[text_len++] = (uint8_t)('0' + mode % 10);
+    text[text_len++] = kind;
+}
+
+/* a line that annihilates the modes of a word, and creates those of another, with coefficient 1 */
+static void put_line(uint64_t annihilated, uint64_t created)
+{
+    size_t rows = 1;
+    text[text_len++] = '1';
+    for (unsigned side = 0; side < 2; side++)
+        for (unsigned mode = 0; mode < 64; mode++)
+            if ((side ? created : annihilated) >> mode & 1) {
+                put_ladder(mode, side ? '^' : '_');
+                rows *= 2;
+            }
+    text[text_len++] = '\n';
+    lines_work_len += 48 * rows;
+}
+
+/* a term a line, in an order made against the sort */
+static void lines_in_order(const uint64_t *order, size_t n)
+{
+    no_lines();
+    for (size_t i = 0; i < n; i++)
+        put_line(order[i], 0);
+    lines_work = calloc(lines_work_len, 1);
+}
+
+/* lines of 12 ladders, of which as many modes branch as can, each line on other modes than the one before */
+static void branching_lines(size_t n)
+{
+    no_lines();
+    for (size_t i = 0; i < n; i++)
+        put_line((uint64_t)63 << i % 58, (uint64_t)63 << i % 58);
+    lines_work = calloc(lines_work_len, 1);
 }
 
 /* {|0..k-1} and {0..k-1|}: all k modes branch in their product, none in the other order */
@@ -136,6 +187,11 @@ static void c_max_n_body(void) { fermion_max_n_body(a, a_len, answer); }
 static void c_active_modes(void) { fermion_active_modes(a, a_len, answer); }
 static void c_report_add(void) { fermion_report_add(a, a_len, report, answer); }
 static void c_full_report(void) { fermion_report_add(a, a_len, full_report, answer); }
+static void c_import(void)
+{
+    fermion_import(64, text, text_len, lines_work, lines_work_len, out, sizeof out, answer);
+}
+static void c_export(void) { fermion_export(a, a_len, exported, sizeof exported, answer); }
 static void c_block(void) { fermion_block(a, a_len, 7, answer); }
 static void c_element(void) { fermion_element(a, a_len, 5, 7, answer); }
 static void c_matrix(void) { fermion_mat_ortho_projected(a, a_len, basis, 8, matrix, answer); }
@@ -156,7 +212,8 @@ static const struct {
     {"fermion_anticommutator", c_anticommutator}, {"fermion_branches", c_branches}, {"fermion_adjoint", c_adjoint},
     {"fermion_is_hermitian", c_is_hermitian}, {"fermion_conserves_particle_number", c_conserves},
     {"fermion_max_n_body", c_max_n_body}, {"fermion_active_modes", c_active_modes}, {"fermion_report_add", c_report_add},
-    {"fermion_report_add, a full report", c_full_report}, {"fermion_block", c_block},
+    {"fermion_report_add, a full report", c_full_report}, {"fermion_import", c_import}, {"fermion_export", c_export},
+    {"fermion_block", c_block},
     {"fermion_element", c_element}, {"fermion_mat_ortho_projected", c_matrix}, {"fermion_compare", c_compare},
     {"fermion_mat_elem_real", c_real}, {"fermion_mat_elem_complex", c_complex},
 };
@@ -182,13 +239,16 @@ static size_t max(size_t x, size_t y) { return x > y ? x : y; }
 static void measure_all(size_t most[CALLS])
 {
     for (int input = 0; input < 4; input++) {
-        if (input == 0) { /* nothing that is a record */
+        if (input == 0) { /* nothing that is a record, and no lines */
             branching(4);
+            no_lines();
             a_len = b_len = lists = 0;
         } else if (input == 1) {
             long_ones();
+            lines_in_order(against_2048, 2048);
         } else {
             branching(input == 2 ? 11 : 18);
+            branching_lines(input == 2 ? 1 : 30);
         }
         ann[1] = input > 1 ? ((uint64_t)1 << (input == 2 ? 11 : 18)) - 1 : 0;
         for (int i = 0; i < CALLS; i++)
@@ -196,7 +256,11 @@ static void measure_all(size_t most[CALLS])
     }
     expect("18 modes branch: the rows are all gathered and sorted", (c_mul(), answer[0] == FERMION_TOO_MANY_TERMS));
     expect("18 modes branch: the rows are all written", (c_mul_cmpnts(), answer[4] == (uint64_t)1 << 18));
+    expect("30 lines of 64 terms, of which 992 differ: they are delivered", (c_import(), answer[3] == 32 + 24 * 992));
     long_ones();
+    lines_in_order(against_2048, 2048);
+    expect("2,048 lines: the record is delivered", (c_import(), answer[0] == 0 && answer[3] == FERMION_MAX_RECORD));
+    expect("2,048 terms: the text is delivered", (c_export(), answer[0] == 0 && answer[3] > 16 * 2048));
     expect("2,048 terms: the adjoint is delivered", (c_adjoint(), answer[0] == 0 && answer[3] == FERMION_MAX_RECORD));
     expect("the report counts the three records, and what is none", report[0] == 3 && report[1] == 1 && report[2] == 2050);
 }
@@ -281,6 +345,22 @@ static void null_reported(void)
     expect("a full report", full_report[0] == FERMION_MAX_REPORTED && full_report[1] == 0);
 }
 
+/* A text, its work and its output, and a record's text. */
+static void null_texts(void)
+{
+    const uint8_t line[2] = {'1', '\n'};
+    a_len = record(a, 64, 0);
+    expect("a text and its output", (fermion_import(1, 0, 0, 0, 0, 0, 0, answer), refused(11, 0)));
+    expect("a text on no modes", (fermion_import(0, 0, 0, 0, 0, 0, 0, answer), refused(1, 1)));
+    expect("a text and its work", (fermion_import(1, 0, 0, 0, 0, out, sizeof out, answer), answer[3] == 32));
+    expect("a text's work that is needed", (fermion_import(1, line, 2, 0, 0, out, sizeof out, answer), refused(7, 0)));
+    expect("a text that is broken", (fermion_import(1, line, 1, 0, 0, 0, 0, answer), refused(16, 0)));
+    expect("a text of no record", (fermion_export(0, 0, exported, sizeof exported, answer), refused(1, 1)));
+    expect("a text of no terms", (fermion_export(a, a_len, 0, 0, answer), refused(0, 0)));
+    branching(1);
+    expect("a text of one term", (fermion_export(a, a_len, 0, 0, answer), refused(11, 0)));
+}
+
 static void null_others(void)
 {
     int all = 1;
@@ -318,6 +398,7 @@ int main(void)
     null_records();
     null_reported();
     null_others();
+    null_texts();
     printf("null pointers with length 0: %u answers as they should be\n", passed - (unsigned)before);
     printf("%u passed, %u failed\n", passed, failed);
     return failed != 0;

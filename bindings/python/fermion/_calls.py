@@ -10,6 +10,7 @@ from ._face import call
 from ._matrix import projected, signed
 from ._record import Product, Record
 from ._report import counted
+from ._text import exported, imported
 from ._types import TERM, Applied, Blocked, Branches, Checked, Comparison, Counted, Term, Whole, Zero, parts
 from ._work import HEADER, ROW, WORK_CEILING, adjoined, front, multiplied, summed, with_rows
 
@@ -190,6 +191,41 @@ def report_add(a: Readable, report: Writable) -> Counted:
     ([1, 1, 2, 0, 10, 10], 10)
     """
     return counted(a, report)
+
+
+def import_(m: Whole, text: Union[str, Readable], *, work: Optional[Writable] = None, out: Optional[Writable] = None,
+            ceiling: Whole = WORK_CEILING) -> Record:
+    """The record of an operator on m modes that is written as ladder text: the sum of all lines, each multiplied out. The name
+    ends in an underscore because `import` is a word of Python's.
+
+    A line is a whole number, then ladders such as `3^`, which creates mode 3, and `0_`, which annihilates mode 0, each after
+    one space, and a line feed; docs/RECORD.md has the grammar. Refusals: 1 for m; for each line in turn, the place being the
+    line, 16, 2, 17; then 8, 7, 10; and 11 for an `out` that is lent.
+
+    The work is 48 bytes times 2 to the number of ladders, for each line. Where no `work` is lent, it is tried with as much as
+    lines of 4 ladders need, and while that is too little with four times as much; 7 is given where it is more than `ceiling`
+    bytes. `out` and `work` overlap nothing else of the call; that is a ValueError.
+
+    >>> print(import_(2, "1 0^ 0_\\n-1 1^ 1_\\n"))
+    1 {0|0} - 1 {1|1}
+    >>> import_(2, b"1 0^ 0_\\n5 0^ 2_\\n")
+    Traceback (most recent call last):
+    fermion.Refusal: refused 2 (operand 1, place 1): a word of a term, or a mode of a line, is outside the modes
+    """
+    return Record._written(imported(as_word(m, "the mode count"), text, work, out, ceiling))
+
+
+def export(a: Readable, *, out: Optional[Writable] = None) -> str:
+    """A record as ladder text: one line a term in the record's order, creations and then annihilations, each ascending.
+
+    `import_` gives back the record from it, under the same m, where that is not refused: a line of more than 12 ladders is.
+    Refusals: 1 to 5; and 11 for an `out` that is lent, which holds the text then, in ASCII.
+
+    >>> print(export(Record.build(4, [(word(3), word(0, 1), -2), (0, 0, 7)])), end="")
+    7
+    -2 3^ 0_ 1_
+    """
+    return exported(a, out)
 
 
 def block(a: Readable, ann: Whole) -> memoryview:

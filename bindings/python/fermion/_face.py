@@ -23,7 +23,7 @@ SHAPES = {
     "apply": "uuu", "mul_cmpnts": "uuuuo", "check": "r", "add": "rro", "sub": "rro", "mul": "rroo", "commutator": "rroo",
     "anticommutator": "rroo", "adjoint": "ro", "is_hermitian": "r", "conserves_particle_number": "r", "max_n_body": "r",
     "active_modes": "r", "block": "ru", "element": "ruu", "mat_ortho_projected": "rwf", "compare": "rr", "branches": "rr",
-    "report_add": "rc", "mat_elem_real": "uwwduuf", "mat_elem_complex": "uwwdduuf",
+    "report_add": "rc", "import": "uroo", "export": "ro", "mat_elem_real": "uwwduuf", "mat_elem_complex": "uwwdduuf",
 }
 
 #: How many numbers a report has.

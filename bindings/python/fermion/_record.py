@@ -12,8 +12,9 @@ from ._build import built
 from ._face import call
 from ._ladders import Ladders, Products, mode_count, multiplied_out
 from ._matrix import signed, tiled
+from ._text import exported, imported
 from ._types import Columns, Term, Whole, whole, written_out
-from ._work import HEADER, ROW, adjoined, multiplied, summed
+from ._work import HEADER, ROW, WORK_CEILING, adjoined, multiplied, summed
 
 
 class Record:
@@ -63,7 +64,7 @@ class Record:
         0
         >>> Record.build(2, [(1, 2, 5), (4, 0, 1)])
         Traceback (most recent call last):
-        fermion.Refusal: refused 2 (operand 1, place 1): a word of a term is outside the modes
+        fermion.Refusal: refused 2 (operand 1, place 1): a word of a term, or a mode of a line, is outside the modes
         >>> Record.build(2, [(1, 2, 5), (1, 1, 1.5)])
         Traceback (most recent call last):
         TypeError: term 1: the coefficient is 1.5, not a whole number
@@ -94,6 +95,23 @@ class Record:
         """
         m = mode_count(modes)
         return cls.build(m, ((cre, ann, count * coeff) for cre, ann, count, coeff in multiplied_out(m, terms, whole)))
+
+    @classmethod
+    def parse(cls, modes: Whole, text: Union[str, Readable], *, ceiling: Whole = WORK_CEILING) -> Record:
+        """The operator that is written as ladder text, one product of ladders a line; `text()` writes one.
+
+        A line is a whole number, then ladders such as `3^`, which creates mode 3, and `0_`, which annihilates mode 0, in any
+        order and with repeats, each after one space, and a line feed. Refusals: 1 for the mode count; for each line in turn,
+        the place being the line from 0, 16 for broken grammar, 2 for a mode outside, 17 for more than 12 ladders; then 8, 7,
+        10. Work and `ceiling` are those of `import_`.
+
+        >>> print(Record.parse(2, "3 0^ 1_\\n5 1_ 1^\\n"))
+        5 {|} + 3 {0|1} - 5 {1|1}
+        >>> Record.parse(2, "3 0^ 1_\\n+5\\n")
+        Traceback (most recent call last):
+        fermion.Refusal: refused 16 (operand 0, place 1): a line breaks the grammar of ladder text
+        """
+        return Record._written(imported(mode_count(modes), text, None, None, ceiling))
 
     @classmethod
     def _written(cls, data: bytes) -> Record:
@@ -157,6 +175,17 @@ class Record:
         if at == len(part) or part[at] != cre:
             return 0
         return int.from_bytes(self.data[start + 8 * (len(self) + at):][:8], "little", signed=True)
+
+    def text(self) -> str:
+        """The operator as ladder text, one line a term, as `parse` reads it. `str(record)` is for people: it shows the words.
+
+        >>> record = Record.ladders(4, [(0, 0), (3, 1)], coeff=2)
+        >>> record.text(), str(record)
+        ('-2 3^ 0_\\n', '-2 {3|0}')
+        >>> Record.parse(4, record.text()) == record
+        True
+        """
+        return exported(self)
 
     def __len__(self) -> int:
         return (len(self._accepted) - HEADER) // ROW

@@ -32,26 +32,30 @@ class Reason(IntEnum):
     NOT_FINITE = 13
     BAD_BASIS = 14
     BAD_REPORT = 15
+    BAD_LINE = 16
+    TOO_MANY_LADDERS = 17
 
 
 #: The refusals in words.
 SENTENCES = {
     1: "the header, the length, the mode count (1 to 64), the number of terms (at most 2,048) or the lengths of the lists "
        "break the rules",
-    2: "a word of a term is outside the modes",
+    2: "a word of a term, or a mode of a line, is outside the modes",
     3: "a term does not stand above the one before it",
     4: "a coefficient is zero",
     5: "the weight is above 2^60",
     6: "the mode counts of the two records differ",
     7: "the rows, 24 bytes each, do not fit",
-    8: "the product of the two weights is above 2^60",
+    8: "the product of the two weights, or the weight that the lines may come to, is above 2^60",
     9: "the weight of the result is above 2^60",
     10: "the result has more than 2,048 terms",
-    11: "the output is shorter than the record of the result",
+    11: "the output is shorter than the record or the text of the result",
     12: "a bra, a ket or a basis word is outside the modes",
     13: "a float coefficient or a running sum is not finite",
     14: "the basis has more than 8 words, or a word twice",
     15: "the report counts 1,024 records, or one of its numbers is above its limit",
+    16: "a line breaks the grammar of ladder text",
+    17: "a line has more than 12 ladders",
 }
 
 
@@ -60,7 +64,7 @@ class Refusal(Exception):
 
     >>> refusal = Refusal(2, 1, 3)
     >>> print(refusal)
-    refused 2 (operand 1, place 3): a word of a term is outside the modes
+    refused 2 (operand 1, place 3): a word of a term, or a mode of a line, is outside the modes
     >>> refusal.reason is Reason.WORD_OUTSIDE
     True
     """

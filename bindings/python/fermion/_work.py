@@ -23,13 +23,13 @@ WORK_CEILING = 1 << 24
 
 def summed(name: str, a: Readable, b: Readable, out: Optional[Writable] = None) -> bytes:
     """The record of a sum or a difference."""
-    room = _room(out, length_of(a) + length_of(b))
+    room = room_for(out, length_of(a) + length_of(b))
     return front(room, call(name, a, b, room)[3])
 
 
 def adjoined(a: Readable, out: Optional[Writable] = None) -> bytes:
     """The record of an adjoint."""
-    room = _room(out, length_of(a))
+    room = room_for(out, length_of(a))
     return front(room, call("adjoint", a, room)[3])
 
 
@@ -42,7 +42,7 @@ def multiplied(name: str, a: Readable, b: Readable, work: Optional[Writable] = N
 
 
 def _called(name: str, a: Readable, b: Readable, rows: Any, out: Optional[Writable]) -> Tuple[bytes, int]:
-    room = _room(out, HEADER + length_of(rows) // ROW * ROW)  # no more terms than rows
+    room = room_for(out, HEADER + length_of(rows) // ROW * ROW)  # no more terms than rows
     answer = call(name, a, b, rows, room)
     return front(room, answer[3]), answer[4]
 
@@ -59,13 +59,14 @@ def with_rows(name: str, a: Readable, b: Readable, ceiling: Whole, attempt: Call
     except Refusal as refusal:
         if refusal.number != Reason.ROWS_DO_NOT_FIT:
             raise
-        return _growing(most, attempt) if name == "mul" else attempt(bytearray())
+        return growing(WORK_CEILING, most, attempt) if name == "mul" else attempt(bytearray())
     needed = ROW * (forward if name == "mul" else forward + backward)
     return attempt(bytearray(needed if needed <= most else 0))
 
 
-def _growing(most: int, attempt: Callable[[bytearray], T]) -> T:
-    length = min(most, WORK_CEILING)
+def growing(least: int, most: int, attempt: Callable[[bytearray], T]) -> T:
+    """A call whose rows nobody has counted, with more and more memory, from `least` bytes on: as long as 7 is given."""
+    length = min(most, least)
     while True:
         try:
             return attempt(bytearray(length))
@@ -79,6 +80,6 @@ def front(room: Any, length: int) -> bytes:
     return memoryview(room).cast("B")[:length].tobytes()
 
 
-def _room(out: Optional[Writable], needed: int) -> Any:
-    """The caller's output, or one of `needed` bytes: more than a record may have is never needed."""
-    return bytearray(min(needed, MAX_BYTES)) if out is None else out
+def room_for(out: Optional[Writable], needed: int, most: int = MAX_BYTES) -> Any:
+    """The caller's output, or one of `needed` bytes: more than `most`, which the longest record has, is never needed."""
+    return bytearray(min(needed, most)) if out is None else out

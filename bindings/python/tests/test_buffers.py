@@ -40,6 +40,7 @@ class Handed(unittest.TestCase):
             self.assertEqual(fermion.mat_ortho_projected(data, [1, 2]), [[1, 0], [0, -1]], kind)
             self.assertEqual(bytes(fermion.block(data, 2)).hex(), "0200000000000000", kind)
             self.assertTrue(fermion.report_add(data, array.array("Q", [0] * 201)).accepted, kind)
+            self.assertEqual(fermion.export(data), "1 0^ 0_\n-1 1^ 1_\n", kind)
             self.assertEqual(Record(data), a, kind)
 
     def peak_of_check(self, data):
@@ -136,6 +137,8 @@ class Lent(unittest.TestCase):
             lambda: fermion.adjoint(whole[:80], out=whole[40:]), lambda: fermion.mul(whole[:80], a, work=whole[70:]),
             lambda: fermion.mul(a, whole[:80], work=whole[100:], out=whole[60:100]),
             lambda: fermion.mul(a, a, work=whole[100:], out=whole[:101]), lambda: fermion.commutator(a, a, work=shared, out=shared),
+            lambda: fermion.export(whole[:80], out=whole[79:]), lambda: fermion.import_(2, whole[:9], work=whole[8:60]),
+            lambda: fermion.import_(2, whole[:9], out=whole[:80]), lambda: fermion.import_(2, "1\n", work=whole[:99], out=whole[98:]),
         ):
             with self.assertRaisesRegex(ValueError, "overlaps"):
                 call()

@@ -47,6 +47,8 @@ counted: Counted = report.add(bytearray(bytes(a)))
 own: Optional[Refusal] = fermion.report_add(b"", array("Q", report.numbers)).refusal
 shares: Tuple[Share, ...] = Report.from_bytes(bytes(report)).ranks
 weight: int = Report(report.numbers).weight + shares[1].weight if counted else report.largest
+parsed: Record = Record.parse(2, "1 0^ 1_\\n") + fermion.import_(2, b"2\\n", work=bytearray(48), out=room)
+lines: List[str] = [parsed.text(), fermion.export(bytes(a), out=room), Record.parse(2, bytearray(b"3\\n"), ceiling=48).text()]
 try:
     a.element(4, 4)
 except Refusal as refusal:
@@ -242,7 +244,8 @@ class Types(unittest.TestCase):
         names = {}
         exec(USE, names)
         self.assertEqual((names["number"], names["real"], names["complexes"]), (12, 0.5, [[0j, 0.5j], [0j, 0j]]))
-        self.assertEqual((names["read"], bytes(names["room"])), (1 + 2 + 56 + 1, bytes(80)))
+        self.assertEqual((names["read"], bytes(names["room"])), (1 + 2 + 56 + 1, b"1 0^ 1_\n" + bytes(72)))
+        self.assertEqual(names["lines"], ["2\n1 0^ 1_\n", "1 0^ 1_\n", "3\n"])
         self.assertEqual((names["weight"], names["own"].args), (2 * (1 + 3 + 6 + 1), (1, 1, 0)))
 
 

@@ -12,6 +12,18 @@ pub const MAX_BASIS: usize = 8;
 /// more than the ceiling is refused with 7.
 pub const WORK_CEILING: usize = 1 << 24;
 
+/// The most ladders that a line of text may have, where it is imported.
+pub const MAX_LADDERS: usize = 12;
+/// Bytes of text: no record is exported as more.
+pub const MAX_TEXT: usize = 1 << 20;
+
+/// Bytes of work for each part of a line, of which it has 2 to the number of its ladders.
+const PART: usize = 48;
+/// The parts of a line of 4 ladders, as those of two-body terms are.
+const USUAL: usize = 1 << 4;
+/// Bytes of a line: a minus, 19 digits, both words with all 64 modes, and a line feed.
+const LINE: usize = 513;
+
 /// What a term does to an occupation word.
 #[derive(Clone, Copy, Debug, PartialEq, Eq, Hash)]
 pub enum Outcome {
@@ -501,6 +513,110 @@ pub fn report_add(a: &(impl AsRef<[u8]> + ?Sized), report: &mut [u64; REPORT]) -
     })
 }
 
+/// The record of an operator on so many modes that is written as ladder text: the sum of all lines, each multiplied out.
+///
+/// A line is a whole number, then ladders such as `3^`, which creates mode 3, and `0_`, which annihilates mode 0, each after
+/// one space, and a line feed; `docs/RECORD.md` of the repository has the grammar. Refusals: 1 for the mode count; for each
+/// line in turn, the place being the line, 16, 2, 17; then 8, 7, 10.
+///
+/// The work is 48 bytes times 2 to the number of ladders, for each line. It is taken up to [`WORK_CEILING`], 2^24 bytes. Where
+/// more is needed it is refused with 7: [`import_within`] has a ceiling of the caller's, [`import_into`] memory of the caller's.
+///
+/// ```
+/// use fermion::{import, Reason};
+/// assert_eq!(import(2, "1 0^ 0_\n-1 1^ 1_\n")?.to_string(), "1 {0|0} - 1 {1|1}");
+/// assert_eq!(import(2, b"1 0^ 0_\n5 0^ 2_\n").unwrap_err().reason(), Some(Reason::WordOutside));
+/// # Ok::<(), fermion::Refusal>(())
+/// ```
+pub fn import(modes: u64, text: &(impl AsRef<[u8]> + ?Sized)) -> Result<Record<'static>, Refusal> {
+    import_within(modes, text, WORK_CEILING)
+}
+
+/// [`import`] with a ceiling of the caller's, in bytes, for the work, in place of [`WORK_CEILING`].
+///
+/// How much it needs the library alone can tell: it tries with as much as lines of 4 ladders need, or the ceiling if that is
+/// less, and while that is too little with four times as much, at last with the ceiling itself. Where the system does not
+/// give the memory, it is refused as [`mul_within`] is.
+///
+/// ```
+/// use fermion::{import_within, Reason};
+/// assert_eq!(import_within(1, "5\n7\n", 2 * 48)?.to_string(), "12 {|}");
+/// assert_eq!(import_within(1, "5\n7\n", 2 * 48 - 1).unwrap_err().reason(), Some(Reason::RowsDoNotFit));
+/// # Ok::<(), fermion::Refusal>(())
+/// ```
+pub fn import_within(
+    modes: u64,
+    text: &(impl AsRef<[u8]> + ?Sized),
+    ceiling: usize,
+) -> Result<Record<'static>, Refusal> {
+    let text = text.as_ref();
+    let lines = text.iter().filter(|&&byte| byte == b'\n').count().max(1);
+    by_trying(lines.saturating_mul(PART * USUAL), ceiling, |bytes| {
+        // No result has more terms than parts.
+        let (mut work, mut out) = (zeros(bytes), vec![0; HEADER + ROW * (bytes / PART).min(MAX_TERMS)]);
+        let length = face::import(modes, text, &mut work, &mut out)?[3];
+        Ok(record_in(out, length))
+    })
+}
+
+/// [`import`] with work and output of the caller's. The work is all zero afterwards, and the output is zero past the record,
+/// or everywhere after a refusal. Refusals: also 11.
+///
+/// ```
+/// use fermion::import_into;
+/// let (mut work, mut out) = ([255; 96], [255; 60]);
+/// assert_eq!(import_into(4, "-7 3^\n", &mut work, &mut out)?.to_string(), "-7 {3|}");
+/// assert_eq!((work, &out[56..]), ([0; 96], &[0; 4][..]));
+/// assert_eq!(import_into(4, "-7 3^\n", &mut work, &mut out[..55]).unwrap_err().number, 11);
+/// # Ok::<(), fermion::Refusal>(())
+/// ```
+pub fn import_into<'o>(
+    modes: u64,
+    text: &(impl AsRef<[u8]> + ?Sized),
+    work: &mut [u8],
+    out: &'o mut [u8],
+) -> Result<Record<'o>, Refusal> {
+    let length = face::import(modes, text.as_ref(), work, out)?[3];
+    Ok(Record::written(&out[..length as usize]))
+}
+
+/// A record as ladder text: one line a term in the record's order, creations and then annihilations, each ascending.
+///
+/// [`import`] gives back the record from it, on as many modes, where that is not refused: a line of more than 12 ladders is.
+/// Refusals: 1 to 5. It takes at most [`MAX_TEXT`] bytes, 2^20.
+///
+/// ```
+/// use fermion::{export, Record};
+/// assert_eq!(export(&Record::build(4, [(8, 3, -2), (0, 0, 7)])?)?, "7\n-2 3^ 0_ 1_\n");
+/// assert_eq!(export(&Record::parse(4, "")?)?, "");
+/// # Ok::<(), fermion::Refusal>(())
+/// ```
+pub fn export(a: &(impl AsRef<[u8]> + ?Sized)) -> Result<String, Refusal> {
+    let a = a.as_ref();
+    let mut out = vec![0; (a.len() / ROW).saturating_mul(LINE).min(MAX_TEXT)];
+    let length = face::export(a, &mut out)?[3];
+    out.truncate(length as usize);
+    out.shrink_to_fit();
+    Ok(String::from_utf8(out).expect(ASCII))
+}
+
+/// [`export`] with an output of the caller's, which is zero past the text, or everywhere after a refusal. Refusals: also 11.
+///
+/// ```
+/// use fermion::{export_into, Record};
+/// let (a, mut out) = (Record::build(4, [(8, 1, -2)])?, [255; 10]);
+/// assert_eq!(export_into(&a, &mut out)?, "-2 3^ 0_\n");
+/// assert_eq!(out[9], 0);
+/// assert_eq!(export_into(&a, &mut out[..8]).unwrap_err().number, 11);
+/// # Ok::<(), fermion::Refusal>(())
+/// ```
+pub fn export_into<'o>(a: &(impl AsRef<[u8]> + ?Sized), out: &'o mut [u8]) -> Result<&'o str, Refusal> {
+    let length = face::export(a.as_ref(), out)?[3];
+    Ok(std::str::from_utf8(&out[..length as usize]).expect(ASCII))
+}
+
+const ASCII: &str = "the library writes digits, signs, spaces and line feeds";
+
 /// The creation words of the terms with one annihilation word, as a part of the caller's own bytes.
 ///
 /// The part is empty where there is no such term, and for bytes that are not a record. [`Record::creations`] reads it.
@@ -641,16 +757,16 @@ fn multiplied(
         (Ok(counts), Orders::Both) => multiplied_with(call, a, b, fitting(counts.both(), ceiling)),
         (Err(refusal), _) if refusal.reason() != Some(Reason::RowsDoNotFit) => Err(refusal),
         // b a may be what has too many: a b, of which the count is not told, may still fit.
-        (Err(_), Orders::Forward) => multiplied_by_trying(call, a, b, ceiling),
+        (Err(_), Orders::Forward) => by_trying(WORK_CEILING, ceiling, |bytes| multiplied_with(call, a, b, bytes / ROW)),
         (Err(_), Orders::Both) => multiplied_with(call, a, b, 0),
     }
 }
 
 /// With more and more work up to the ceiling, so that what needs little does not take all that it may.
-fn multiplied_by_trying(call: Multiplies, a: &[u8], b: &[u8], ceiling: usize) -> Result<Product<'static>, Refusal> {
-    let mut bytes = ceiling.min(WORK_CEILING);
+fn by_trying<T>(least: usize, ceiling: usize, attempt: impl Fn(usize) -> Result<T, Refusal>) -> Result<T, Refusal> {
+    let mut bytes = ceiling.min(least);
     loop {
-        match multiplied_with(call, a, b, bytes / ROW) {
+        match attempt(bytes) {
             Err(refusal) if refusal.reason() == Some(Reason::RowsDoNotFit) && bytes < ceiling => {
                 bytes = bytes.saturating_mul(4).min(ceiling);
             }

@@ -66,6 +66,17 @@ extern "C" {
     fn fermion_max_n_body(a: Bytes, a_len: usize, answer: Numbers);
     fn fermion_active_modes(a: Bytes, a_len: usize, answer: Numbers);
     fn fermion_report_add(a: Bytes, a_len: usize, report: Numbers, answer: Numbers);
+    fn fermion_import(
+        m: u64,
+        text: Bytes,
+        text_len: usize,
+        work: Lent,
+        work_len: usize,
+        out: Lent,
+        out_len: usize,
+        answer: Numbers,
+    );
+    fn fermion_export(a: Bytes, a_len: usize, out: Lent, out_len: usize, answer: Numbers);
     fn fermion_block(a: Bytes, a_len: usize, ann: u64, answer: Numbers);
     fn fermion_element(a: Bytes, a_len: usize, bra: u64, ket: u64, answer: Numbers);
     fn fermion_mat_ortho_projected(
@@ -198,6 +209,19 @@ pub(crate) fn adjoint(a: &[u8], out: &mut [u8]) -> Result<Answer, Refusal> {
 pub(crate) fn report_add(a: &[u8], report: &mut [u64; REPORT]) -> Result<Answer, Refusal> {
     // SAFETY: a slice, a report's numbers borrowed exclusively, and eight numbers.
     answered(|answer| unsafe { fermion_report_add(a.as_ptr(), a.len(), report.as_mut_ptr(), answer) })
+}
+
+pub(crate) fn import(m: u64, text: &[u8], work: &mut [u8], out: &mut [u8]) -> Result<Answer, Refusal> {
+    // SAFETY: slices, `work` and `out` borrowed exclusively and so apart, and eight numbers.
+    answered(|answer| unsafe {
+        let (work, work_len) = (work.as_mut_ptr(), work.len());
+        fermion_import(m, text.as_ptr(), text.len(), work, work_len, out.as_mut_ptr(), out.len(), answer)
+    })
+}
+
+pub(crate) fn export(a: &[u8], out: &mut [u8]) -> Result<Answer, Refusal> {
+    // SAFETY: slices, `out` borrowed exclusively, and eight numbers.
+    answered(|answer| unsafe { fermion_export(a.as_ptr(), a.len(), out.as_mut_ptr(), out.len(), answer) })
 }
 
 pub(crate) fn block(a: &[u8], ann: u64) -> Answer {

@@ -113,6 +113,20 @@ impl<'a> Record<'a> {
         let mut part = crate::block(self, ann);
         std::iter::from_fn(move || take(&mut part))
     }
+
+    /// The operator as ladder text, one line a term, as [`Record::parse`] reads it. What `to_string` gives is for people: it
+    /// shows the words.
+    ///
+    /// ```
+    /// let record = fermion::Record::build(4, [(8, 1, -2), (0, 0, 7)])?;
+    /// assert_eq!(record.to_text(), "7\n-2 3^ 0_\n");
+    /// assert_eq!(record.to_string(), "7 {|} - 2 {3|0}");
+    /// assert_eq!(fermion::Record::parse(4, &record.to_text())?, record);
+    /// # Ok::<(), fermion::Refusal>(())
+    /// ```
+    pub fn to_text(&self) -> String {
+        crate::export(self).expect("an accepted record has a text, and the output is long enough")
+    }
 }
 
 impl Record<'static> {
@@ -142,6 +156,25 @@ impl Record<'static> {
             return Err(Refusal::new(Reason::ResultTooHeavy, 0, 0));
         }
         Record::new(encode(modes, &sums))
+    }
+
+    /// The operator that is written as ladder text, one product of ladders a line: [`crate::import`].
+    ///
+    /// A line is a whole number, then ladders such as `3^`, which creates mode 3, and `0_`, which annihilates mode 0, in any
+    /// order and with repeats, each after one space, and a line feed. Refusals: 1 for the mode count; for each line in turn,
+    /// the place being the line from 0, 16 for broken grammar, 2 for a mode outside, 17 for more than 12 ladders; then 8, 7,
+    /// 10.
+    ///
+    /// ```
+    /// use fermion::{Reason, Record};
+    /// let record = Record::parse(2, "3 0^ 1_\n5 1_ 1^\n")?;
+    /// assert_eq!(record.to_string(), "5 {|} + 3 {0|1} - 5 {1|1}");
+    /// let refusal = Record::parse(2, "3 0^ 1_\n+5\n").unwrap_err();
+    /// assert_eq!((refusal.reason(), refusal.place), (Some(Reason::BadLine), 1));
+    /// # Ok::<(), fermion::Refusal>(())
+    /// ```
+    pub fn parse(modes: u64, text: &(impl AsRef<[u8]> + ?Sized)) -> Result<Record<'static>, Refusal> {
+        crate::import(modes, text)
     }
 }
 

@@ -25,7 +25,7 @@ pub enum Reason {
     /// The header, the length, the mode count (1 to 64), the number of terms (at most 2,048) or the lengths of the lists
     /// break the rules.
     Malformed = 1,
-    /// A word of a term is outside the modes.
+    /// A word of a term, or a mode of a line, is outside the modes.
     WordOutside = 2,
     /// A term does not stand above the one before it.
     OutOfOrder = 3,
@@ -37,13 +37,13 @@ pub enum Reason {
     ModesDiffer = 6,
     /// The rows, 24 bytes each, do not fit.
     RowsDoNotFit = 7,
-    /// The product of the two weights is above 2^60.
+    /// The product of the two weights, or the weight that the lines may come to, is above 2^60.
     ProductTooHeavy = 8,
     /// The weight of the result is above 2^60.
     ResultTooHeavy = 9,
     /// The result has more than 2,048 terms.
     TooManyTerms = 10,
-    /// The output is shorter than the record of the result.
+    /// The output is shorter than the record or the text of the result.
     OutputTooShort = 11,
     /// A bra, a ket or a basis word is outside the modes.
     OccupationOutside = 12,
@@ -53,10 +53,14 @@ pub enum Reason {
     BadBasis = 14,
     /// The report counts 1,024 records, or one of its numbers is above its limit.
     BadReport = 15,
+    /// A line breaks the grammar of ladder text.
+    BadLine = 16,
+    /// A line has more than 12 ladders.
+    TooManyLadders = 17,
 }
 
 /// All of them.
-const EACH: [Reason; 15] = [
+const EACH: [Reason; 17] = [
     Reason::Malformed,
     Reason::WordOutside,
     Reason::OutOfOrder,
@@ -72,6 +76,8 @@ const EACH: [Reason; 15] = [
     Reason::NotFinite,
     Reason::BadBasis,
     Reason::BadReport,
+    Reason::BadLine,
+    Reason::TooManyLadders,
 ];
 
 impl Reason {
@@ -87,20 +93,24 @@ impl Reason {
                 "the header, the length, the mode count (1 to 64), the number of terms (at most 2,048) \
                  or the lengths of the lists break the rules"
             }
-            Reason::WordOutside => "a word of a term is outside the modes",
+            Reason::WordOutside => "a word of a term, or a mode of a line, is outside the modes",
             Reason::OutOfOrder => "a term does not stand above the one before it",
             Reason::ZeroCoeff => "a coefficient is zero",
             Reason::TooHeavy => "the weight is above 2^60",
             Reason::ModesDiffer => "the mode counts of the two records differ",
             Reason::RowsDoNotFit => "the rows, 24 bytes each, do not fit",
-            Reason::ProductTooHeavy => "the product of the two weights is above 2^60",
+            Reason::ProductTooHeavy => {
+                "the product of the two weights, or the weight that the lines may come to, is above 2^60"
+            }
             Reason::ResultTooHeavy => "the weight of the result is above 2^60",
             Reason::TooManyTerms => "the result has more than 2,048 terms",
-            Reason::OutputTooShort => "the output is shorter than the record of the result",
+            Reason::OutputTooShort => "the output is shorter than the record or the text of the result",
             Reason::OccupationOutside => "a bra, a ket or a basis word is outside the modes",
             Reason::NotFinite => "a float coefficient or a running sum is not finite",
             Reason::BadBasis => "the basis has more than 8 words, or a word twice",
             Reason::BadReport => "the report counts 1,024 records, or one of its numbers is above its limit",
+            Reason::BadLine => "a line breaks the grammar of ladder text",
+            Reason::TooManyLadders => "a line has more than 12 ladders",
         }
     }
 }
@@ -141,15 +151,19 @@ impl Error for UnknownReason {}
 /// assert_eq!((refusal.number, refusal.operand, refusal.place), (1, 1, 0));
 /// assert_eq!(refusal.reason(), Some(Reason::Malformed));
 /// let refusal = Record::build(2, [(1, 0, 1), (4, 0, 1)]).unwrap_err();
-/// assert_eq!(refusal.to_string(), "refused 2 (operand 1, place 1): a word of a term is outside the modes");
+/// assert_eq!(
+///     refusal.to_string(),
+///     "refused 2 (operand 1, place 1): a word of a term, or a mode of a line, is outside the modes"
+/// );
 /// ```
 #[derive(Clone, Copy, Debug, PartialEq, Eq, Hash)]
 pub struct Refusal {
     /// Which of the refusals, 1 or more.
     pub number: u64,
-    /// 1 the first record or the list of terms, 2 the second record, 3 the bra or the basis, 4 the ket, 0 none of them.
+    /// 1 the first record, the list of terms or the text, 2 the second record, 3 the bra or the basis, 4 the ket, 0 none of
+    /// them.
     pub operand: u64,
-    /// The index of the term or the basis word, from 0; 0 where the number has no place.
+    /// The index of the term, the basis word or the line, from 0; 0 where the number has no place.
     pub place: u64,
 }
 

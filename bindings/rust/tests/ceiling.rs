@@ -138,6 +138,22 @@ fn a_report_takes_nothing() {
     }
 }
 
+/// Five lines of 4 ladders are tried once; one of 12 ladders with four times as much each time.
+#[test]
+fn a_text_takes_what_lines_of_4_ladders_need_and_more_where_that_is_too_little() {
+    let (few, many) = ("1 0^ 1^ 2_ 3_\n".repeat(5), format!("1{}\n", " 0_ 0^".repeat(6)));
+    let (answer, taken) = largest(|| fermion::import(4, &few));
+    assert_eq!((answer.unwrap().len(), taken), (1, (5 * 48) << 4));
+    let (answer, taken) = largest(|| fermion::import_within(4, &many, usize::MAX));
+    assert_eq!((answer.unwrap().len(), taken), (2, 48 << 12));
+    let (answer, taken) = largest(|| fermion::import(4, &many.repeat(86)));
+    assert_eq!((refusal(answer), taken), ((7, 0, 0), WORK_CEILING));
+    assert_eq!(refusal(given_only(48 << 11, || fermion::import_within(4, &many, usize::MAX))), (7, 0, 0));
+    let (answer, taken) = largest(|| fermion::export(&one(64, 1, 1, 1)));
+    assert_eq!(answer.unwrap(), "1 0^ 0_\n");
+    assert!(taken <= 2 * 513, "{taken}");
+}
+
 #[test]
 fn eight_comes_before_seven() {
     for m in [23, 58, 59, 64] {

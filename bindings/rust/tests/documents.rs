@@ -2,7 +2,9 @@
 use std::path::Path;
 
 use fermion::{Reason, Record, Refusal, UnknownReason};
-use fermion::{MAX_BASIS, MAX_BYTES, MAX_MODES, MAX_REPORTED, MAX_TERMS, MAX_WEIGHT, REPORT, ROW};
+use fermion::{
+    MAX_BASIS, MAX_BYTES, MAX_LADDERS, MAX_MODES, MAX_REPORTED, MAX_TERMS, MAX_TEXT, MAX_WEIGHT, REPORT, ROW,
+};
 
 fn text(path: &str) -> String {
     std::fs::read_to_string(Path::new(env!("CARGO_MANIFEST_DIR")).join("../..").join(path)).unwrap()
@@ -25,8 +27,8 @@ fn the_sentences_are_those_of_the_table() {
             numbers.push(number);
         }
     }
-    assert!(numbers.iter().copied().eq(1..=15));
-    for number in [0, 16, u64::MAX] {
+    assert!(numbers.iter().copied().eq(1..=17));
+    for number in [0, 18, u64::MAX] {
         assert_eq!(refused(number).sentence(), "a refusal that this crate has no words for");
     }
 }
@@ -49,13 +51,15 @@ fn the_reasons_have_the_numbers_of_the_document() {
         Reason::NotFinite,
         Reason::BadBasis,
         Reason::BadReport,
+        Reason::BadLine,
+        Reason::TooManyLadders,
     ];
     for (number, reason) in (1..).zip(named) {
         assert_eq!((u64::from(reason), reason.number()), (number, number));
         assert_eq!(Reason::try_from(number), Ok(reason));
         assert_eq!(refused(number).reason(), Some(reason));
     }
-    for number in [0, 16, u64::MAX] {
+    for number in [0, 18, u64::MAX] {
         assert_eq!(Reason::try_from(number), Err(UnknownReason(number)));
         assert_eq!(refused(number).reason(), None);
     }
@@ -79,7 +83,7 @@ fn the_names_are_those_of_the_header() {
         assert_eq!(named, name, "{number}");
         numbers.push(number);
     }
-    assert!(numbers.iter().copied().eq(0..=15));
+    assert!(numbers.iter().copied().eq(0..=17));
 }
 
 #[test]
@@ -87,8 +91,14 @@ fn the_limits_are_those_of_the_document() {
     assert_eq!((MAX_MODES, MAX_TERMS, MAX_BYTES, MAX_BASIS, ROW), (64, 2_048, 49_184, 8, 24));
     assert_eq!(MAX_WEIGHT, 1_152_921_504_606_846_976);
     assert_eq!((REPORT, MAX_REPORTED), (201, 1_024));
+    assert_eq!((MAX_LADDERS, MAX_TEXT), (12, 1_048_576));
     let header = text("include/fermion.h");
-    for (name, number) in [("REPORT", REPORT), ("MAX_REPORTED", MAX_REPORTED as usize)] {
+    for (name, number) in [
+        ("REPORT", REPORT),
+        ("MAX_REPORTED", MAX_REPORTED as usize),
+        ("MAX_LADDERS", MAX_LADDERS),
+        ("MAX_TEXT", MAX_TEXT),
+    ] {
         let rest = header.split(&format!("#define FERMION_{name} ")).nth(1).unwrap();
         assert_eq!(rest.split_whitespace().next(), Some(number.to_string().as_str()), "{name}");
     }

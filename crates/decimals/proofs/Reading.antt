@@ -6,7 +6,9 @@ use Prim.Native.Nat.{ℕ, zero, suc, _+_, _*_, _-_, _/_, _%_, _≤_, _<_}
 use native.Mathlib.Omega.{arith}
 use borrow.Author.Tests.{lt-ltb, le-ltb}
 use Rattle.modes.proofs.Digits.{lt-or-ge}
+use Rattle.modes.specs.Every.{Every, none, more}
 use Rattle.decimals.specs.Decimal.{digits, decimal, field, readOn}
+use Rattle.decimals.proofs.Written.{Digit, decimal-digits}
 
 read-append : (n : ℕ) (xs ys : List ℕ) → readOn n (xs ++ ys) ≡ readOn (readOn n xs) ys
 unfolding readOn
@@ -28,25 +30,8 @@ decimal-reads n = digits-read (suc n) n (omega arith)
 decimal-one : (m n : ℕ) → decimal m ≡ decimal n → m ≡ n
 decimal-one m n e = sym (decimal-reads m) ∙ ap (readOn 0) e ∙ decimal-reads n
 
--- no byte is below the digit 0
-data AllDigits : List ℕ → Type 0 where
-  none : AllDigits []
-  more : {d : ℕ} {ds : List ℕ} → 48 ≤ d → AllDigits ds → AllDigits (d ∷ ds)
-
-digits-append : (xs : List ℕ) (d : ℕ) → AllDigits xs → 48 ≤ d → AllDigits (xs ++ (d ∷ []))
-digits-append [] d none h = more h none
-digits-append (x ∷ xs) d (more k ks) h = more k (digits-append xs d ks h)
-
-all-digits : (k n : ℕ) → AllDigits (digits k n)
-unfolding digits
-all-digits zero n = none
-all-digits (suc k) n =
-    ⊎-elim (λ small. rw (lt-ltb n 10 small) (more {d = 48 + n % 10} (omega arith) none))
-    (λ big. rw (le-ltb n 10 big) (digits-append (digits k (n / 10)) (48 + n % 10) (all-digits k (n / 10)) (omega arith)))
-    (lt-or-ge n 10)
-
 -- digits end at the first byte that is none
-apart : (xs ys us vs : List ℕ) (end : ℕ) → end < 48 → AllDigits xs → AllDigits ys → xs ++ (end ∷ us) ≡ ys ++ (end ∷ vs) → (xs ≡ ys) × (us ≡ vs)
+apart : (xs ys us vs : List ℕ) (end : ℕ) → end < 48 → Every Digit xs → Every Digit ys → xs ++ (end ∷ us) ≡ ys ++ (end ∷ vs) → (xs ≡ ys) × (us ≡ vs)
 apart [] [] us vs end h none none e = (refl, cc)
 apart [] (y ∷ ys) us vs end h none (more k ks) e = let z : end ≡ y = cc in absurd (omega arith)
 apart (x ∷ xs) [] us vs end h (more k ks) none e = let z : x ≡ end = cc in absurd (omega arith)
@@ -58,9 +43,8 @@ apart (x ∷ xs) (y ∷ ys) us vs end h (more k ks) (more l ls) e =
 
 -- two fields with the same byte after the number, whatever follows each
 pub field-apart : (m n end : ℕ) (us vs : List ℕ) → end < 48 → field m end ++ us ≡ field n end ++ vs → (m ≡ n) × (us ≡ vs)
-unfolding decimal
 field-apart m n end us vs h e =
     let both =
-    apart (decimal m) (decimal n) us vs end h (all-digits (suc m) m) (all-digits (suc n) n)
+    apart (decimal m) (decimal n) us vs end h (decimal-digits m) (decimal-digits n)
     (sym (append-assoc (decimal m) (end ∷ []) us) ∙ e ∙ append-assoc (decimal n) (end ∷ []) vs) in
     (decimal-one m n (both .0), both .1)

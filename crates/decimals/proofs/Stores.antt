@@ -10,6 +10,10 @@ use Rattle.lent.specs.Bytes.{put}
 use Rattle.lent.proofs.Puts.{put-sets, put-join}
 use Rattle.decimals.specs.Stores.{Stored}
 
+-- nothing
+pub stored-none : (l : List ℕ) (o : ℕ) → o ≤ length l → Stored l o [] l o
+stored-none l o h = record { bytes = put-sets l o [] (omega arith); ends = omega arith }
+
 -- one byte
 pub stored-one : (l : List ℕ) (o b : ℕ) → o < length l → Stored l o (b ∷ []) (set l o b) (o + 1)
 stored-one l o b h = record { bytes = put-sets l o (b ∷ []) (omega arith); ends = refl }

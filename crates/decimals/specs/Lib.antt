@@ -1,2 +1,4 @@
 pub mod Decimal
+pub mod Numbers
+pub mod Ceiling
 pub mod Stores

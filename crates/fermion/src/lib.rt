@@ -18,6 +18,8 @@ ghost use Rattle.float_elem.specs.Elements.{floatElement};
 ghost use Rattle.compare.specs.Comparison.{comparedOf};
 ghost use Rattle.record.specs.Refusals.{checkedOf};
 ghost use Rattle.record.specs.Blocks.{blockOf};
+ghost use Rattle.text.specs.Import.{importOf};
+ghost use Rattle.text.specs.Export.{exportOf};
 ghost use Rattle.figures.specs.Figures.{conservesOf, maxNBodyOf, activeModesOf};
 ghost use Rattle.fermion.specs.Face.{applyAnswer, writtenAnswer, answered, checkedAnswer, testedAnswer, measuredAnswer, stretchAnswer, elementAnswer, Fills, FillsClean};
 ghost use Rattle.fermion.specs.Face.{floatValues, floatAnswer, FillsFloat, comparedAnswer, branchesAnswer, FillsReport, inRows, FillsMatrix};
@@ -217,6 +219,28 @@ pub extern "C" fn fermion_active_modes(a: &[u8], answer: &mut [u64; 8])
     ensures { λ _. ⌜ now (answer .exit) ≡ measuredAnswer (activeModesOf (readAs 1 (now (a .entry)))) ⌝ }
 {
     *answer = measured(figures::active_modes(a));
+}
+
+#[no_mangle]
+pub extern "C" fn fermion_import(
+    m: u64,
+    text: &[u8],
+    work: &mut [u8],
+    out: &mut [u8],
+    answer: &mut [u64; 8],
+)
+    ensures { λ _. ⌜ FillsClean (importOf m (length (now (work .entry))) (length (now (out .entry))) (now (text .entry))) (now (out .exit)) (now (answer .exit)) (length (now (work .entry))) (now (work .exit)) ⌝ }
+{
+    let w = text::import(m, text, work, out);
+    *answer = written(w);
+}
+
+#[no_mangle]
+pub extern "C" fn fermion_export(a: &[u8], out: &mut [u8], answer: &mut [u64; 8])
+    ensures { λ _. ⌜ Fills (exportOf (length (now (out .entry))) (readAs 1 (now (a .entry)))) (now (out .exit)) (now (answer .exit)) ⌝ }
+{
+    let w = text::export(a, out);
+    *answer = written(w);
 }
 
 #[no_mangle]

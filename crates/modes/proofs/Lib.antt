@@ -9,6 +9,7 @@ pub mod Single
 pub mod Before
 pub mod Every
 pub mod Refusals
+pub mod Never
 pub mod FirstRefusals
 pub mod Spaces
 pub mod Unique

@@ -45,6 +45,13 @@ unfolding count
 count-below zero p l = refl
 count-below (suc k) p l = rw (count-below k p (omega arith), bit-pow p k ∙ ne-eqb k p (λ e. omega arith))
 
+pub count-most : (k p : ℕ) → count k (bit (2 ^ p)) ≤ 1
+count-most k p = go (lt-or-ge p k)
+  where
+    go : (p < k) ⊎ (k ≤ p) → count k (bit (2 ^ p)) ≤ 1
+    go (inl l) = omega (arith, count-one k p l)
+    go (inr l) = omega (arith, count-below k p l)
+
 exchanges-below : (k p : ℕ) (v : Modes) → k ≤ suc p → exchanges k (bit (2 ^ p)) v ≡ 0
 unfolding exchanges
 exchanges-below zero p v l = refl

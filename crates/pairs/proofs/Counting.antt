@@ -1,9 +1,9 @@
 -- The rows of all pairs: as many as the branches, and at any two words no heavier than the product of the two weights, twice where both orders count.
 use mathlib.Core.Path.{_≡_, refl, sym, ap, ap₂, _∙_, fun-ext}
 use mathlib.Core.Bool.{Bool, true, false, cond, _&&_}
-use mathlib.Core.List.{List, [], _∷_, map}
+use mathlib.Core.List.{List, [], _∷_}
 use Prim.Native.Nat.{ℕ, _+_, _*_, _^_, _≤_}
-use native.Mathlib.Nat.{mul-add, mul-assoc, mul-comm, le-of-eq}
+use native.Mathlib.Nat.{mul-add, mul-assoc, mul-comm}
 use native.Mathlib.Omega.{arith}
 use lib.Dec.{eqb}
 use lib.IntN.{ℤ, pos, natAbs, _*ℤ_}
@@ -16,9 +16,9 @@ use Rattle.modes.specs.Every.{Every, none, more, Pairwise, nothing, beside}
 use Rattle.integers.proofs.SignedNumbers.{abs-product}
 use Rattle.modes.proofs.Sums.{Respects, sum-through, natural-numbers, by-both-orders, length-respects}
 use Rattle.products.specs.Operators.{signed}
-use Rattle.products.specs.Product.{Other, choices, notEmpty, branching, minusAt, rowTimes, rowsTimes}
+use Rattle.products.specs.Product.{Other, notEmpty, branching, rowsTimes}
 use Rattle.products.proofs.Multiplied.{rows-none, rows-number}
-use Rattle.products.proofs.ProductTheorems.{rows-differ}
+use Rattle.products.proofs.ProductTheorems.{rows-differ, rows-size}
 use Rattle.products.proofs.Signs.{abs-signed}
 use Rattle.record.specs.Terms.{weight}
 use Rattle.collect.specs.KeyWeights.{keyWeight, Light}
@@ -82,18 +82,6 @@ module _ (cre ann : ℕ) where
       go later true true p q = omega (arith, h, apart r rs (eqb-true _ _ q) (eqb-true _ _ p) d)
       go later true false p q = omega (arith, later)
       go later false y p q = omega (arith, later)
-
-  rows-size : (Lc La Rc Ra : ℕ) (z : ℤ) → Every (λ r. natAbs (r .coeff) ≤ natAbs z) (rowsTimes Lc La Rc Ra z)
-  unfolding rowsTimes
-  rows-size Lc La Rc Ra z = go (notEmpty Lc La Rc Ra)
-    where
-      each : (l : List ℕ) → Every (λ r. natAbs (r .coeff) ≤ natAbs z) (map (rowTimes Lc La Rc Ra z) l)
-      each [] = none
-      each (S ∷ l) = more (le-of-eq (abs-signed (minusAt Lc La Rc Ra S) z)) (each l)
-
-      go : (b : Bool) → Every (λ r. natAbs (r .coeff) ≤ natAbs z) (cond b (map (rowTimes Lc La Rc Ra z) (choices 64 0 (branching Lc La Rc Ra) 0)) [])
-      go true = each (choices 64 0 (branching Lc La Rc Ra) 0)
-      go false = none
 
   product-weighs : (Lc La Rc Ra : ℕ) (z : ℤ) → keyWeight cre ann (rowsTimes Lc La Rc Ra z) ≤ natAbs z
   product-weighs Lc La Rc Ra z = one-weighs (natAbs z) (rowsTimes Lc La Rc Ra z) (rows-differ Lc La Rc Ra z) (rows-size Lc La Rc Ra z)

@@ -28,11 +28,11 @@ ladders-gone needs (suc p) at = go (ladders-gone needs p at) (bit at p)
     go ih true = ih
     go ih false = ih
 
--- a word without modes has no ladders
-ladders-none : (needs : Bool) (k : ℕ) (o : Outcome) → ladders needs k 0 o ≡ o
+-- a word without modes below k has no ladders below k
+pub ladders-none : (needs : Bool) (k at : ℕ) (o : Outcome) → ((p : ℕ) → p < k → bit at p ≡ false) → ladders needs k at o ≡ o
 unfolding ladders
-ladders-none needs zero o = refl
-ladders-none needs (suc p) o = rw (bit-none p) (ladders-none needs p o)
+ladders-none needs zero at o h = refl
+ladders-none needs (suc p) at o h = rw (h p (le-refl (suc p))) (ladders-none needs p at o (λ q l. h q (omega arith)))
 
 -- the word with the modes of `at` below k flipped
 unfoldable flips : ℕ → ℕ → ℕ → ℕ
@@ -134,7 +134,8 @@ acts-is cre ann w =
 
 pub term-none : (o : Outcome) → term 0 0 o ≡ o
 unfolding term
-term-none o = ladders-none creating 64 (ladders annihilating 64 0 o) ∙ ladders-none annihilating 64 o
+term-none o =
+    ladders-none creating 64 0 (ladders annihilating 64 0 o) (λ p l. bit-none p) ∙ ladders-none annihilating 64 0 o (λ p l. bit-none p)
 
 pub term-gone : (cre ann : ℕ) → term cre ann gone ≡ gone
 unfolding term

@@ -11,6 +11,9 @@ use lib.Pow.{pow-pos}
 use lib.IntN.{ℤ, pos}
 use lib.ListN.{length, take, drop}
 use lib.Seq.{take-at}
+use mir.Syntax.{w64}
+use mir.Val.{SFits, toZ, ofZ}
+use mir.Facts.{toZ-ofZ}
 use borrow.Author.Tests.{lt-ltb, le-ltb}
 use Rattle.modes.specs.Words.{bit}
 use Rattle.modes.specs.Counts.{count}
@@ -40,7 +43,7 @@ module _ (Lc La Rc Ra : ℕ) where
   unfolding rowsTimes
   rows-none z e = rw e
 
-  rows-full : (z : ℤ) → notEmpty Lc La Rc Ra ≡ true → rowsTimes Lc La Rc Ra z ≡ map (rowTimes Lc La Rc Ra z) (choices 64 0 (branching Lc La Rc Ra) 0)
+  pub rows-full : (z : ℤ) → notEmpty Lc La Rc Ra ≡ true → rowsTimes Lc La Rc Ra z ≡ map (rowTimes Lc La Rc Ra z) (choices 64 0 (branching Lc La Rc Ra) 0)
   unfolding rowsTimes
   rows-full z e = rw e
 
@@ -80,6 +83,11 @@ module _ (Lc La Rc Ra : ℕ) where
 
       at-end : end ≡ 24 * length (rowsTimes Lc La Rc Ra (pos 1))
       at-end = ee ∙ zero-add _
+
+-- the lowest row's coefficient is a number of 64 bits, which its bits give back
+pub lowest-is : (h : ProductHelper) {z : ℤ} → SFits w64 z → (t : Term) → t ≡ rowTimes (h .«l_cre») (h .«l_ann») (h .«r_cre») (h .«r_ann») (toZ w64 (ofZ w64 z)) 0
+    → t ≡ rowTimes (h .«l_cre») (h .«l_ann») (h .«r_cre») (h .«r_ann») z 0
+lowest-is h fits t e = e ∙ ap (λ (z : ℤ). rowTimes (h .«l_cre») (h .«l_ann») (h .«r_cre») (h .«r_ann») z 0) (toZ-ofZ fits)
 
 -- the walk's rows are the product's, and there is room for them from `at` on
 module _ (h : ProductHelper) (w : ℕ) (small : w < 2 ^ 64) (z : ℤ) (at room : ℕ) (f : Fitting h w (room - at)) where

@@ -2,7 +2,7 @@
 use mathlib.Core.Path.{_≡_, refl, sym, ap, ap₂, _∙_, subst}
 use mathlib.Core.Bool.{Bool, true, false, not, cond, _&&_, _||_}
 use mathlib.Core.List.{List, [], _++_, map}
-use Prim.Native.Nat.{ℕ, _-_, _*_, _^_, _<_}
+use Prim.Native.Nat.{ℕ, _-_, _*_, _^_, _≤_, _<_}
 use native.Mathlib.Omega.{arith}
 use native.Mathlib.Nat.{le-trans, le-of-eq, lt-of-le-of-lt}
 use lib.Bits.{bitAnd, bitOr, bitXor, or-lt, xor-lt, and-lt, and-le-r}
@@ -64,6 +64,16 @@ module _ (Lc La Rc Ra : ℕ) where
           pairwise-map (Part 64 (branching Lc La Rc Ra)) (λ S T. S ≡ T → ⊥) Other (rowTimes Lc La Rc Ra z) (other-rows z) (choices 64 0 (branching Lc La Rc Ra) 0)
           parts (choices-differ 64 0 (branching Lc La Rc Ra) 0)
       go false = nothing
+
+  -- ---- a row's coefficient is as far from zero as the product's
+
+  pub rows-size : (z : ℤ) → Every (λ r. natAbs (r .coeff) ≤ natAbs z) (rowsTimes Lc La Rc Ra z)
+  unfolding rowsTimes
+  rows-size z = go (notEmpty Lc La Rc Ra)
+    where
+      go : (b : Bool) → Every (λ r. natAbs (r .coeff) ≤ natAbs z) (cond b (map (rowTimes Lc La Rc Ra z) (choices 64 0 (branching Lc La Rc Ra) 0)) [])
+      go true = every-map (rowTimes Lc La Rc Ra z) (choices 64 0 (branching Lc La Rc Ra) 0) (λ S h. le-of-eq (abs-signed (minusAt Lc La Rc Ra S) z)) parts
+      go false = none
 
   -- ---- a row holds only modes that the four words hold
 

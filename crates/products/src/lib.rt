@@ -110,7 +110,7 @@ pub fn signed_coeff(sign: Sign, coeff: i64) -> i64
 }
 
 // The row that keeps the branching mode `mode` too: its two ladders pass the creations above it and the annihilations below it.
-fn keep(row: Term, mode: u64) -> Term
+pub fn keep(row: Term, mode: u64) -> Term
     requires { ⌜ One mode × (natAbs (row .coeff) < 2 ^ 63) ⌝ }
     ensures { λ r. ⌜ (r ≡ keeping mode row) × (natAbs (r .coeff) < 2 ^ 63) ⌝ }
 {

@@ -22,7 +22,7 @@ pub record Laid (l : List ℕ) : Type 0 where
   pub few : countOf l ≤ 2048
   pub header : numbers 4 l 0 8 ≡ fields (modesOf l) (countOf l)
 
-made : (m : ℕ) → isMade (spaceOf m) ≡ true → leb 1 m && leb m 64 ≡ true
+pub made : (m : ℕ) → isMade (spaceOf m) ≡ true → leb 1 m && leb m 64 ≡ true
 made m e = go (leb 1 m && leb m 64) e
   where
     go : (b : Bool) → isMade (cond b (Made (record { count = m })) Refused) ≡ true → b ≡ true

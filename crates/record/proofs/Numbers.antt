@@ -33,7 +33,7 @@ stored-one : (w x : ℕ) → stored w (x ∷ []) ≡ bytes w x
 unfolding stored
 stored-one w x = append-nil (bytes w x)
 
-put-none : (l : List ℕ) (o : ℕ) → put l o [] ≡ l
+pub put-none : (l : List ℕ) (o : ℕ) → put l o [] ≡ l
 unfolding put
 put-none l o = rw (add-zero o) (take-append-drop o l)
 

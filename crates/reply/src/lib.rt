@@ -36,7 +36,7 @@ fn put_line(s: &mut [u8], number: u64, operand: u64, place: u64) -> usize
 }
 
 // The line of a refusal, and zeros past it; all zeros where the line is longer than the output.
-fn tell(out: &mut [u8], refusal: Refusal) -> usize
+pub fn tell(out: &mut [u8], refusal: Refusal) -> usize
     ensures { λ r. ⌜ Says (lineIn (length (now (out .entry))) refusal) (length (now (out .entry))) r (now (out .exit)) ⌝ }
 {
     let mut line = [0u8; LONGEST_LINE];
@@ -60,17 +60,12 @@ fn holds_first(input: &[u8]) -> bool
     record::total(input) <= input.len()
 }
 
-// The one refusal that is decided here: 1, operand 1.
-fn refuse_first(work: &mut [u8], out: &mut [u8]) -> Written
-    ensures { λ r. ⌜ Leaves (refusedOutput (length (now (out .entry))) (refusal 1 1 0)) r (now (out .exit)) (length (now (work .entry))) (now (work .exit)) ⌝ }
+// A refusal before any call that is lent the work: both are wiped here.
+pub fn refuse(work: &mut [u8], out: &mut [u8], refusal: Refusal) -> Written
+    ensures { λ r. ⌜ Leaves (refusedOutput (length (now (out .entry))) refusal) r (now (out .exit)) (length (now (work .entry))) (now (work .exit)) ⌝ }
 {
     lent::wipe(work);
-    let one = Refusal {
-        number: 1,
-        operand: 1,
-        place: 0,
-    };
-    lent::refuse(out, one)
+    lent::refuse(out, refusal)
 }
 
 // The commutator of the two records, or its refusal.
@@ -81,7 +76,12 @@ fn answer(input: &[u8], work: &mut [u8], out: &mut [u8]) -> Written
         let end = record::total(input);
         return multiply::commutator(&input[..end], &input[end..], work, out);
     }
-    refuse_first(work, out)
+    let one = Refusal {
+        number: 1,
+        operand: 1,
+        place: 0,
+    };
+    refuse(work, out, one)
 }
 
 // The record of the commutator of the two records that the input holds one after the other, or the line of its refusal, at

@@ -1,8 +1,6 @@
 -- `commutator::main` is safe and ends: what it writes stands in the output.
 use borrow.Author.Needs.{needs}
-use mathlib.Core.Path.{sym}
-use lib.Seq.{length-take-le}
-use Rattle.reply.proofs.Replies.{says-inside}
+use Rattle.reply.proofs.Replies.{says-inside, says-whole}
 use Rattle.commutator.proofs.main.Statement.{statement}
 use Rattle.commutator.proofs.main.Tie as tie
 
@@ -25,8 +23,7 @@ array-share-prefix-out : tie.Need-array-share-prefix-out
 array-share-prefix-out c = says-inside (c .reply .ensures)
 
 slice-aggregate-write-all : tie.Need-slice-aggregate-write-all
-slice-aggregate-write-all c =
-    let called = c .before .reply in sym (length-take-le (called .result) (called .last .1 .0) (says-inside (called .ensures)))
+slice-aggregate-write-all c = says-whole (c .before .reply .ensures)
 
 write-all-requires : tie.Need-write-all-requires
 write-all-requires c κs = search needs

@@ -1,29 +1,18 @@
 -- `products::put_rows` meets its contract: the walk's rows are the product's, and where no mode branches there is one.
-use mathlib.Core.Path.{_≡_, ap, _∙_}
+use mathlib.Core.Path.{ap, _∙_}
 use mathlib.Core.List.{List}
 use Prim.Native.Nat.{ℕ}
-use lib.IntN.{ℤ}
 use lib.ListN.{length}
-use mir.Syntax.{w64}
-use mir.Val.{SFits, toZ, ofZ}
-use mir.Facts.{toZ-ofZ}
 use Rattle.modes.specs.Words.{bit}
 use Rattle.modes.specs.Counts.{count}
 use Rattle.modes.specs.declared.Term.{Term}
 use Rattle.lent.specs.Bytes.{put}
 use Rattle.lent.specs.Rows.{rowsBytes}
-use Rattle.products.specs.Product.{rowTimes}
 use Rattle.products.specs.Walk.{walk}
-use Rattle.products.specs.declared.ProductHelper.{ProductHelper}
-use Rattle.products.proofs.Multiplied.{walk-fits, walk-ends, walk-is, one-fits, one-ends, one-is}
+use Rattle.products.proofs.Multiplied.{lowest-is, walk-fits, walk-ends, walk-is, one-fits, one-ends, one-is}
 use borrow.Author.Needs.{needs}
 use Rattle.products.proofs.put_rows.Statement.{statement}
 use Rattle.products.proofs.put_rows.Tie as tie
-
--- the coefficient is a number of 64 bits, which its bits give back
-lowest : (h : ProductHelper) {z : ℤ} → SFits w64 z → (t : Term) → t ≡ rowTimes (h .«l_cre») (h .«l_ann») (h .«r_cre») (h .«r_ann») (toZ w64 (ofZ w64 z)) 0
-    → t ≡ rowTimes (h .«l_cre») (h .«l_ann») (h .«r_cre») (h .«r_ann») z 0
-lowest h fits t e = e ∙ ap (λ (z : ℤ). rowTimes (h .«l_cre») (h .«l_ann») (h .«r_cre») (h .«r_ann») z 0) (toZ-ofZ fits)
 
 lowest-row-requires : tie.Need-lowest-row-requires
 lowest-row-requires c κs = search needs
@@ -50,7 +39,7 @@ returns c =
       c .before .before .put-row .ensures
           ∙ ap (put (s .args .out .now) _)
           (one-is (s .args .helper) _ (s .fits .left .fits) (s .args .coeff) _ (length (s .args .out .now)) (s .pre .0) none _
-          (lowest (s .args .helper) (s .fits .coeff) _ (c .before .before .before .before .before .lowest-row .ensures .0))),
+          (lowest-is (s .args .helper) (s .fits .coeff) _ (c .before .before .before .before .before .lowest-row .ensures .0))),
     )
 
 do-branch-requires : tie.Need-do-branch-requires
@@ -71,7 +60,7 @@ returns-2 c =
       _∙_ {b = filled (walk (count 64 (bit (s .args .left))) (s .args .left) (lowest-row .result))} (walked .1)
           (ap filled
           (walk-is (s .args .helper) _ (s .fits .left .fits) (s .args .coeff) _ (length (s .args .out .now)) (s .pre .0) _
-          (lowest (s .args .helper) (s .fits .coeff) _ (lowest-row .ensures .0)))),
+          (lowest-is (s .args .helper) (s .fits .coeff) _ (lowest-row .ensures .0)))),
     )
 
 pub put-rows-spec : {M : Type 1} → statement M

@@ -60,8 +60,8 @@ returns c =
     leaves-as (answer-parts (s .args .input .now) (sym (at-holds-first .holds-first .ensures) ∙ at-if1 .if1 .taken) (length (s .args .work .now))
     (length (s .args .out .now)) _ (at-total .total .ensures .0)) (at-commutator .commutator .ensures)
 
-refuse-first-requires : tie.Need-refuse-first-requires
-refuse-first-requires c κs = search needs
+refuse-requires : tie.Need-refuse-requires
+refuse-requires c κs = search needs
 
 same-length-3 : tie.Need-same-length-3
 same-length-3 c = search needs
@@ -71,12 +71,12 @@ same-length-4 c = search needs
 
 returns-2 : tie.Need-returns-2
 returns-2 c =
-    let at-refuse-first = c .before .before .before .before in
-    let at-if1 = at-refuse-first .before .before .before in
+    let at-refuse = c .before .before .before .before in
+    let at-if1 = at-refuse .before .before .before in
     let at-holds-first = at-if1 .before in
     let s = at-holds-first .before .before .before .before in
     leaves-as (answer-short (s .args .input .now) (sym (at-holds-first .holds-first .ensures) ∙ at-if1 .if1 .left) (length (s .args .work .now))
-    (length (s .args .out .now))) (at-refuse-first .refuse-first .ensures)
+    (length (s .args .out .now))) (at-refuse .refuse .ensures)
 
 pub answer-spec : {M : Type 1} → statement M
 answer-spec =
@@ -92,7 +92,7 @@ answer-spec =
     same-length
     same-length-2
     returns
-    refuse-first-requires
+    refuse-requires
     same-length-3
     same-length-4
     returns-2)

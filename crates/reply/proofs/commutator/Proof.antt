@@ -18,7 +18,11 @@ returns : tie.Need-returns
 returns c =
     let answered = c .before .before .before .before .before .before .before in
     let s = answered .before .before .before .before .before .before in
-    record-told _ (answer-shape (length (s .args .work .now)) (length (s .args .out .now)) (s .args .input .now)) (answered .answer .ensures) (c .if1 .taken)
+    let made = answered .answer .ensures in
+    record {
+      says = record-told (answer-shape (length (s .args .work .now)) (length (s .args .out .now)) (s .args .input .now)) (made .output) (c .if1 .taken);
+      clean = made .clean;
+    }
 
 tell-requires : tie.Need-tell-requires
 tell-requires c κs = search needs
@@ -33,7 +37,11 @@ returns-2 : tie.Need-returns-2
 returns-2 c =
     let refused = c .before .before .before .before in
     let answered = refused .before .before .before .before .before .before .before in
-    line-told (answered .answer .kept .1 .1 .0) (answered .answer .ensures) (refused .if1 .left) (c .before .before .tell .ensures)
+    let made = answered .answer .ensures in
+    record {
+      says = line-told (answered .answer .kept .1 .1 .0) (made .output) (refused .if1 .left) (c .before .before .tell .ensures);
+      clean = made .clean;
+    }
 
 pub commutator-spec : {M : Type 1} → statement M
 commutator-spec =

@@ -1,0 +1,6 @@
+pub mod Ladders
+pub mod Acting
+pub mod Sizes
+pub mod Steps
+pub mod Fields
+pub mod Writing

@@ -1,0 +1,6 @@
+pub mod Pieces
+pub mod Joined
+pub mod Spelled
+pub mod Fine
+pub mod Fields
+pub mod Texts

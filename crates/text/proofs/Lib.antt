@@ -1,0 +1,10 @@
+pub mod Gathering
+pub mod Refusing
+pub mod Bringing
+pub mod Theorems
+pub mod Never
+pub mod Placing
+pub mod Exports
+pub mod ExportTheorems
+pub mod Unique
+pub mod RoundTrip

@@ -1,0 +1,4 @@
+pub mod Import
+pub mod Export
+pub mod Gathering
+pub mod Placing

@@ -1,0 +1,2 @@
+pub mod TextReplies
+pub mod Unique
