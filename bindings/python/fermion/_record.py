@@ -101,9 +101,9 @@ class Record:
         """The operator that is written as ladder text, one product of ladders a line; `text()` writes one.
 
         A line is a whole number, then ladders such as `3^`, which creates mode 3, and `0_`, which annihilates mode 0, in any
-        order and with repeats, each after one space, and a line feed. Refusals: 1 for the mode count; for each line in turn,
-        the place being the line from 0, 16 for broken grammar, 2 for a mode outside, 17 for more than 12 ladders; then 8, 7,
-        10. Work and `ceiling` are those of `import_`.
+        order and with repeats, each after one space, and a line feed, the last line too. Refusals: 1 for the mode count; for each
+        line in turn, the place being the line from 0, 16 for broken grammar, 2 for a mode outside, 17 for more than 12 ladders;
+        then 8, 7, 10. Work and `ceiling` are those of `import_`.
 
         >>> print(Record.parse(2, "3 0^ 1_\\n5 1_ 1^\\n"))
         5 {|} + 3 {0|1} - 5 {1|1}

@@ -19,11 +19,11 @@ unfolding digits
 enough (suc j) (suc k) n h g =
     ⊎-elim (λ small. rw (lt-ltb n 10 small)) (λ big. rw (le-ltb n 10 big, enough j k (n / 10) (omega arith) (omega arith))) (lt-or-ge n 10)
 
-decimal-digit : (n : ℕ) → n < 10 → decimal n ≡ (48 + n) ∷ []
+pub decimal-digit : (n : ℕ) → n < 10 → decimal n ≡ (48 + n) ∷ []
 unfolding decimal digits
 decimal-digit n h = rw (lt-ltb n 10 h) (ap (λ (d : ℕ). (48 + d) ∷ []) (omega arith))
 
-decimal-more : (n : ℕ) → 10 ≤ n → decimal n ≡ decimal (n / 10) ++ ((48 + n % 10) ∷ [])
+pub decimal-more : (n : ℕ) → 10 ≤ n → decimal n ≡ decimal (n / 10) ++ ((48 + n % 10) ∷ [])
 unfolding decimal digits
 decimal-more n h =
     rw (le-ltb n 10 h) (ap (λ (l : List ℕ). l ++ ((48 + n % 10) ∷ [])) (enough n (suc (n / 10)) (n / 10) (omega arith) (omega arith)))

@@ -1,18 +1,20 @@
 -- The digits of a number are a number of a text: digits from 0 to 9, and no zero in front of others.
-use mathlib.Core.Path.{_≡_, refl}
-use mathlib.Core.Bool.{true, or-true}
-use mathlib.Core.List.{List, [], _∷_, _++_}
+use mathlib.Core.Path.{_≡_, refl, sym, ap, _∙_}
+use mathlib.Core.Bool.{true, or-true, not, _&&_, _||_, true≢false}
+use mathlib.Core.List.{List, [], _∷_, _++_, append-nil, append-assoc}
 use mathlib.Core.Logic.{⊎-elim}
-use Prim.Native.Nat.{ℕ, zero, suc, _+_, _/_, _%_, _≤_, _<_}
+use Prim.Native.Nat.{ℕ, zero, suc, _+_, _-_, _*_, _/_, _%_, _≤_, _<_}
 use native.Mathlib.Omega.{arith}
-use lib.Dec.{eqb}
+use lib.Dec.{eqb, leb}
 use lib.ListN.{length}
-use borrow.Author.Tests.{lt-ltb, le-ltb, le-leb, ne-eqb}
+use borrow.Author.Tests.{lt-ltb, le-ltb, le-leb, leb-true, eq-eqb, ne-eqb}
 use Rattle.modes.specs.Every.{Every, none, more}
+use Rattle.modes.proofs.Bools.{and-l, and-r}
 use Rattle.modes.proofs.Digits.{lt-or-ge}
 use Rattle.modes.proofs.Every.{every-last}
-use Rattle.decimals.specs.Decimal.{digits, decimal}
-use Rattle.decimals.specs.Numbers.{allDigits, startsWell, isNumber}
+use Rattle.decimals.specs.Decimal.{digits, decimal, readOn}
+use Rattle.decimals.specs.Numbers.{isDigit, allDigits, startsWell, isNumber}
+use Rattle.decimals.proofs.Decimals.{decimal-digit, decimal-more}
 
 -- from 0 to 9, as ASCII
 abbrev pub Digit : ℕ → Type 0
@@ -65,3 +67,43 @@ starts-well (suc n) = led (decimal (suc n)) (leads (suc (suc n)) (suc n) (omega 
 
 pub decimal-number : (n : ℕ) → isNumber (decimal n) ≡ true
 decimal-number n = rw (starts-well n) (digits-told (decimal n) (decimal-digits n))
+
+-- ---- and nothing else is: a number of a text is the digits of what it makes
+
+-- digits read on after a number other than 0 are written after it
+written-on : (v : ℕ) (l : List ℕ) → 1 ≤ v → allDigits l ≡ true → decimal (readOn v l) ≡ decimal v ++ l
+unfolding readOn allDigits
+written-on v [] h e = sym (append-nil (decimal v))
+written-on v (d ∷ l) h e =
+    let low = leb-true 48 d (and-l (leb 48 d) (leb d 57) (and-l (isDigit d) (allDigits l) e)) in
+    let high = leb-true d 57 (and-r (leb 48 d) (leb d 57) (and-l (isDigit d) (allDigits l) e)) in
+    let next = 10 * v + (d - 48) in
+    let tenth : next / 10 ≡ v = omega arith in
+    let last : 48 + next % 10 ≡ d = omega arith in
+    let grown : decimal next ≡ decimal v ++ (d ∷ []) = decimal-more next (omega arith) ∙ rw (tenth, last) in
+    written-on next l (omega arith) (and-r (isDigit d) (allDigits l) e) ∙ ap (λ (k : List ℕ). k ++ l) grown ∙ append-assoc (decimal v) (d ∷ []) l
+
+-- several bytes do not start with a zero
+led-not : (b n : ℕ) → eqb (suc n) 0 || not (eqb b 48) ≡ true → b ≡ 48 → ⊥
+led-not b n e z = absurd (true≢false (sym e ∙ rw (ne-eqb (suc n) 0 (λ q. absurd (omega arith)), eq-eqb b 48 z)))
+
+-- THE NUMBERS of a text are the numbers as they are written, and no other bytes
+pub number-written : (l : List ℕ) → isNumber l ≡ true → decimal (readOn 0 l) ≡ l
+unfolding startsWell allDigits readOn
+number-written [] e = absurd (true≢false (sym e))
+number-written (b ∷ []) e =
+    let digit = and-l (isDigit b) true e in
+    let low = leb-true 48 b (and-l (leb 48 b) (leb b 57) digit) in
+    let high = leb-true b 57 (and-r (leb 48 b) (leb b 57) digit) in
+    let value : 10 * 0 + (b - 48) ≡ b - 48 = omega arith in
+    let back : 48 + (b - 48) ≡ b = omega arith in
+    rw (value, decimal-digit (b - 48) (omega arith), back)
+number-written (b ∷ c ∷ l) e =
+    let all = and-r (startsWell (b ∷ c ∷ l)) (allDigits (b ∷ c ∷ l)) e in
+    let digit = and-l (isDigit b) (allDigits (c ∷ l)) all in
+    let low = leb-true 48 b (and-l (leb 48 b) (leb b 57) digit) in
+    let high = leb-true b 57 (and-r (leb 48 b) (leb b 57) digit) in
+    let other : b ≡ 48 → ⊥ = λ z. led-not b (length l) (and-l (startsWell (b ∷ c ∷ l)) (allDigits (b ∷ c ∷ l)) e) z in
+    let value : 10 * 0 + (b - 48) ≡ b - 48 = omega arith in
+    let back : 48 + (b - 48) ≡ b = omega arith in
+    rw value (written-on (b - 48) (c ∷ l) (omega arith) (and-r (isDigit b) (allDigits (c ∷ l)) all) ∙ rw (decimal-digit (b - 48) (omega arith), back))

@@ -4,3 +4,4 @@ pub mod Sizes
 pub mod Steps
 pub mod Fields
 pub mod Writing
+pub mod Unique

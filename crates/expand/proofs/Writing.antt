@@ -29,7 +29,8 @@ use Rattle.expand.proofs.Steps.{lowRow, rows-gone, one-mode, rows-singl
 
 -- ---- rows of two lists, one after the other
 
-wrote-both : (l m k : List ℕ) (used next end : ℕ) (ts us : List Term) → used ≤ length l → Wrote l used ts next m → Wrote m next us end k → Wrote l used (ts ++ us) end k
+wrote-both : (l m k : List ℕ) (used next end : ℕ) (ts us : List Term) → used ≤ length l → Wrote l used ts next m
+    → Wrote m next us end k → Wrote l used (ts ++ us) end k
 wrote-both l m k used next end ts us h a b = (
   b .0 ∙ omega (arith, a .0, length-append ts us),
   b .1 ∙ ap (λ (z : List ℕ). put z next (rowsBytes us)) (a .1)

@@ -16,7 +16,8 @@ use Rattle.decimals.specs.Decimal.{readOn}
 use Rattle.decimals.specs.Numbers.{isNumber, startsWell, allDigits}
 use Rattle.decimals.specs.Ceiling.{upTo, numberIn}
 use Rattle.decimals.specs.declared.Number.{Number}
-use Rattle.lines.specs.Grammar.{space, creates, annihilates, pieces, kindOf, isLadder, ladderOf, allLadders, isMinus, magnitudeOf, coefficientOf, isLineOf, lineFrom, isLine, lineOf}
+use Rattle.lines.specs.Grammar.{space, creates, annihilates, pieces, kindOf, isLadder, ladderOf, allLadders, isMinus, magnitudeOf, coefficientOf}
+use Rattle.lines.specs.Grammar.{isLineOf, lineFrom, isLine, lineOf}
 use Rattle.lines.specs.Refusals.{allBelow}
 use Rattle.lines.specs.Reading.{rest, ladderRead, coefficientRead, laddersRead, lineRead}
 use Rattle.lines.specs.declared.ReadLadder.{ReadLadder}

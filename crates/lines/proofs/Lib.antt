@@ -4,3 +4,5 @@ pub mod Spelled
 pub mod Fine
 pub mod Fields
 pub mod Texts
+pub mod Nothing
+pub mod Unique

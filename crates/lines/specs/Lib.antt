@@ -1,3 +1,4 @@
 pub mod Grammar
 pub mod Refusals
+pub mod Spelling
 pub mod Reading

@@ -22,7 +22,7 @@ use Rattle.products.specs.Apply.{applied}
 use Rattle.products.specs.Operators.{signed}
 use Rattle.products.specs.Product.{notEmpty, branching, rowTimes, multiplied}
 use Rattle.products.specs.Fitting.{rowsOf}
-use Rattle.products.specs.Walk.{walk}
+use Rattle.products.specs.Walk.{keeping, walk}
 use Rattle.products.specs.declared.ApplyResult.{ApplyResult}
 use Rattle.products.specs.declared.ProductHelper.{ProductHelper}
 
@@ -37,6 +37,9 @@ one-coefficient sign z r s = one
 
 pub one-fit : (left room : ℕ) (r s : Bool) → r ≡ leb (24 * 2 ^ ones left) room → s ≡ leb (24 * 2 ^ ones left) room → r ≡ s
 one-fit left room r s = one
+
+pub one-kept : (mode : ℕ) (row r s : Term) → (r ≡ keeping mode row) × (natAbs (r .coeff) < 2 ^ 63) → (s ≡ keeping mode row) × (natAbs (s .coeff) < 2 ^ 63) → r ≡ s
+one-kept mode row r s p q = one (p .0) (q .0)
 
 module _ (h : ProductHelper) where
   pub one-emptiness : (r s : Bool) → r ≡ not (notEmpty (h .«l_cre») (h .«l_ann») (h .«r_cre») (h .«r_ann»))

@@ -22,8 +22,9 @@ pub record Laid (l : List ℕ) : Type 0 where
   pub few : countOf l ≤ 2048
   pub header : numbers 4 l 0 8 ≡ fields (modesOf l) (countOf l)
 
-pub made : (m : ℕ) → isMade (spaceOf m) ≡ true → leb 1 m && leb m 64 ≡ true
-made m e = go (leb 1 m && leb m 64) e
+pub made : (m : ℕ) → isMade (spaceOf m) ≡ true → (1 ≤ m) × (m ≤ 64)
+made m e =
+    let both = go (leb 1 m && leb m 64) e in (leb-true 1 m (and-l (leb 1 m) (leb m 64) both), leb-true m 64 (and-r (leb 1 m) (leb m 64) both))
   where
     go : (b : Bool) → isMade (cond b (Made (record { count = m })) Refused) ≡ true → b ≡ true
     go true q = refl
@@ -44,8 +45,8 @@ laid l e =
     let header = same-numbers _ _ (three .2) in
     record {
       size = eqb-true _ _ (and-r (goodHeader l) (eqb (length l) (totalOf l)) e) ∙ ap (λ (xs : List ℕ). getD xs 6 0) header;
-      some = leb-true 1 (modesOf l) (and-l (leb 1 (modesOf l)) (leb (modesOf l) 64) space);
-      most = leb-true (modesOf l) 64 (and-r (leb 1 (modesOf l)) (leb (modesOf l) 64) space);
+      some = space .0;
+      most = space .1;
       few = leb-true _ _ (three .1);
       header = header;
     }

@@ -9,6 +9,7 @@ pub one-text : (text : List ℕ) (room r s : ℕ) (x y : List ℕ) → Says text
 one-text text room r s x y g h = (g .len ∙ sym (h .len), g .bytes ∙ sym (h .bytes))
 
 -- and of the work that `commutator` is lent
-pub one-reply : (text : List ℕ) (room held r s : ℕ) (x y w v : List ℕ) → Replies text room r x held w → Replies text room s y held v → (r ≡ s) × (x ≡ y) × (w ≡ v)
+pub one-reply : (text : List ℕ) (room held r s : ℕ) (x y w v : List ℕ) → Replies text room r x held w → Replies text room s y held v
+    → (r ≡ s) × (x ≡ y) × (w ≡ v)
 one-reply text room held r s x y w v g h =
     let both = one-text text room r s x y (g .says) (h .says) in (both .0, both .1, g .clean ∙ sym (h .clean))

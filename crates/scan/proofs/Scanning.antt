@@ -157,7 +157,8 @@ module _ (m : ℕ) (text : List ℕ) (s : Sums) (at i : ℕ) (g : Going m text s
               burden-low = omega (arith, eb);
               spread-low = omega (arith, es);
               rest = turn ∙ or-second r _ z ∙ ap (λ (j : ℕ). linesRefusal m j (piecesFrom text (end + 1))) (sym (add-one i));
-              burdens = all-burdens ∙ join-burdens (s .burden) (burden (lineOf line)) (x .magnitude * 2 ^ x .ladders) (t .burden) (amountOf burden (linesFrom text (end + 1))) heavy eb;
+              burdens = all-burdens
+                  ∙ join-burdens (s .burden) (burden (lineOf line)) (x .magnitude * 2 ^ x .ladders) (t .burden) (amountOf burden (linesFrom text (end + 1))) heavy eb;
               spreads = all-spreads ∙ join-burdens (s .spread) (spread (lineOf line)) (2 ^ x .ladders) (t .spread) (amountOf spread (linesFrom text (end + 1))) (ap upTo k) es;
             }
 

@@ -22,7 +22,7 @@ use Rattle.lines.specs.Refusals.{allBelow, textRefusal}
 use Rattle.lines.proofs.Fine.{Fine, all-fine}
 use Rattle.term_lines.specs.Written.{termsText}
 use Rattle.term_lines.specs.Ladders.{modesLadders, lineOfTerm}
-use Rattle.term_lines.proofs.Reading.{bodyOf, body-read, body-good, text-pieces}
+use Rattle.term_lines.proofs.Reading.{termBody, line-read, line-good, text-pieces}
 
 -- every mode of a word inside m modes is below m
 below-append : (m : ℕ) (xs ys : List Ladder) → allBelow m xs ≡ true → allBelow m ys ≡ true → allBelow m (xs ++ ys) ≡ true
@@ -58,16 +58,16 @@ ladders-count t =
     length-append (modesLadders creating 64 (t .cre)) (modesLadders annihilating 64 (t .ann))
     ∙ ap₂ (λ (x y : ℕ). x + y) (modes-count creating 64 (t .cre)) (modes-count annihilating 64 (t .ann))
 
-body-fine : (m : ℕ) (t : Term) → Inside m t × (creations t + annihilations t ≤ 12) → Fine m (bodyOf t)
+body-fine : (m : ℕ) (t : Term) → Inside m t × (creations t + annihilations t ≤ 12) → Fine m (termBody t)
 body-fine m t h =
     record {
-      good = body-good t;
+      good = line-good (lineOfTerm t);
       below =
-          rw (body-read t)
+          rw (line-read (lineOfTerm t))
           (below-append m (modesLadders creating 64 (t .cre)) _ (modes-below m creating 64 (t .cre) (h .0 .cre)) (modes-below m annihilating 64 (t .ann) (h .0 .ann)));
-      few = rw (body-read t, ladders-count t) (h .1);
+      few = rw (line-read (lineOfTerm t), ladders-count t) (h .1);
     }
 
 -- THE TEXT of such terms is accepted
 pub text-accepted : (m : ℕ) (ts : List Term) → Every (λ t. Inside m t × (creations t + annihilations t ≤ 12)) ts → textRefusal m (termsText ts) ≡ unrefused
-text-accepted m ts h = rw (text-pieces ts) (all-fine m 0 (map bodyOf ts) (every-map bodyOf ts (body-fine m) h))
+text-accepted m ts h = rw (text-pieces ts) (all-fine m 0 (map termBody ts) (every-map termBody ts (body-fine m) h))

@@ -13,8 +13,10 @@ use Rattle.modes.proofs.Every.{every-append, every-last}
 use Rattle.products.specs.PhaseRule.{creating, annihilating}
 use Rattle.decimals.specs.Decimal.{decimal, field}
 use Rattle.decimals.specs.Numbers.{isNumber}
-use Rattle.lines.specs.Grammar.{lineFeed, space, minus, creates, annihilates, pieces, Ladder, isLadder, ladderOf, allLadders, magnitudeOf, coefficientOf, Line, isLineOf, lineFrom, isLine, lineOf, ended, linesOf}
+use Rattle.lines.specs.Grammar.{lineFeed, space, minus, creates, annihilates, pieces, Ladder, isLadder, ladderOf, allLadders, magnitudeOf, coefficientOf}
+use Rattle.lines.specs.Grammar.{Line, isLineOf, lineFrom, isLine, lineOf, ended, linesOf}
 use Rattle.lines.specs.Refusals.{linesRefusal}
+use Rattle.lines.specs.Spelling.{kindByte, ladderText, laddersText}
 use Rattle.lines.proofs.Joined.{Lacks, pieces-after, pieces-before, ended-before}
 use Rattle.lines.proofs.Spelled.{number-lacks, ladder-read, ladder-good, plain-read, plain-good, minus-read, minus-good}
 use Rattle.lines.proofs.Fine.{unbroken}
@@ -22,12 +24,6 @@ use Rattle.term_lines.specs.Written.{signText, modesText, termText, term
 use Rattle.term_lines.specs.Ladders.{modesLadders, lineOfTerm}
 
 -- ---- a ladder
-
-abbrev kindByte : Bool → ℕ
-kindByte needs = cond needs annihilates creates
-
-abbrev ladderText : Ladder → List ℕ
-ladderText x = field (x .mode) (kindByte (x .needs))
 
 ladder-lacks : (b : ℕ) → b < 48 → (x : Ladder) → Lacks b (ladderText x)
 ladder-lacks b h x = every-last (decimal (x .mode)) (kindByte (x .needs)) (number-lacks b (x .mode) h) (go (x .needs))
@@ -53,9 +49,6 @@ ladders-back (x ∷ xs) =
     (ap₂ {C = List Ladder} (λ (y : Ladder) (ys : List Ladder). y ∷ ys) (first .0) (later .0), rw (first .1) (later .1))
 
 -- ---- ladders, each after a space
-
-abbrev laddersText : List Ladder → List ℕ
-laddersText xs = listOf (λ x. space ∷ ladderText x) xs
 
 ladders-append : (xs ys : List Ladder) → laddersText (xs ++ ys) ≡ laddersText xs ++ laddersText ys
 unfolding sumBy
@@ -99,49 +92,50 @@ coefficient-back (negsuc n) = (minus-read (suc n), minus-good (suc n))
 
 -- ---- a line without its line feed
 
-abbrev pub bodyOf : Term → List ℕ
-bodyOf t = coefficientText (t .coeff) ++ laddersText (lineOfTerm t .ladders)
+abbrev pub bodyOf : Line → List ℕ
+bodyOf x = coefficientText (x .coeff) ++ laddersText (x .ladders)
 
-term-body : (t : Term) → termText t ≡ bodyOf t ++ (lineFeed ∷ [])
+abbrev pub termBody : Term → List ℕ
+termBody t = bodyOf (lineOfTerm t)
+
+term-body : (t : Term) → termText t ≡ termBody t ++ (lineFeed ∷ [])
 unfolding termText
 term-body t =
     rw (modes-text creating 64 (t .cre), modes-text annihilating 64 (t .ann), ladders-append (modesLadders creating 64 (t .cre)) (modesLadders annihilating 64 (t .ann)))
     (simp append-assoc)
 
-body-lacks : (t : Term) → Lacks lineFeed (bodyOf t)
-body-lacks t = every-append (coefficientText (t .coeff)) _ (coefficient-lacks lineFeed (omega arith) (t .coeff)) (ladders-lack (lineOfTerm t .ladders))
+body-lacks : (x : Line) → Lacks lineFeed (bodyOf x)
+body-lacks x = every-append (coefficientText (x .coeff)) _ (coefficient-lacks lineFeed (omega arith) (x .coeff)) (ladders-lack (x .ladders))
 
-body-pieces : (t : Term) → pieces space (bodyOf t) ≡ coefficientText (t .coeff) ∷ map ladderText (lineOfTerm t .ladders)
-body-pieces t =
-    pieces-after space ladderText (ladder-lacks space (omega arith)) (coefficientText (t .coeff)) (lineOfTerm t .ladders)
-    (coefficient-lacks space (omega arith) (t .coeff))
+body-pieces : (x : Line) → pieces space (bodyOf x) ≡ coefficientText (x .coeff) ∷ map ladderText (x .ladders)
+body-pieces x =
+    pieces-after space ladderText (ladder-lacks space (omega arith)) (coefficientText (x .coeff)) (x .ladders) (coefficient-lacks space (omega arith) (x .coeff))
 
-pub body-read : (t : Term) → lineOf (bodyOf t) ≡ lineOfTerm t
+-- EVERY LINE as it is written is a line, and reads as what was written
+pub line-read : (x : Line) → lineOf (bodyOf x) ≡ x
 unfolding lineFrom
-body-read t =
-    ap lineFrom (body-pieces t) ∙ rw (coefficient-back (t .coeff) .0, ladders-back (lineOfTerm t .ladders) .0)
+line-read x = ap lineFrom (body-pieces x) ∙ rw (coefficient-back (x .coeff) .0, ladders-back (x .ladders) .0)
 
-pub body-good : (t : Term) → isLine (bodyOf t) ≡ true
+pub line-good : (x : Line) → isLine (bodyOf x) ≡ true
 unfolding isLineOf
-body-good t =
-    ap isLineOf (body-pieces t) ∙ rw (coefficient-back (t .coeff) .1) (ladders-back (lineOfTerm t .ladders) .1)
+line-good x = ap isLineOf (body-pieces x) ∙ rw (coefficient-back (x .coeff) .1) (ladders-back (x .ladders) .1)
 
 -- ---- all lines
 
-pub text-pieces : (ts : List Term) → pieces lineFeed (termsText ts) ≡ map bodyOf ts ++ ([] ∷ [])
+pub text-pieces : (ts : List Term) → pieces lineFeed (termsText ts) ≡ map termBody ts ++ ([] ∷ [])
 text-pieces ts =
-    ap (λ (f : Term → List ℕ). pieces lineFeed (listOf f ts)) (fun-ext term-body) ∙ pieces-before lineFeed bodyOf body-lacks ts
+    ap (λ (f : Term → List ℕ). pieces lineFeed (listOf f ts)) (fun-ext term-body) ∙ pieces-before lineFeed termBody (λ t. body-lacks (lineOfTerm t)) ts
 
 -- THE TEXT of terms reads as their lines
 pub text-read : (ts : List Term) → linesOf (termsText ts) ≡ map lineOfTerm ts
 text-read ts =
-    ap (λ (ls : List (List ℕ)). map lineOf (ended ls)) (text-pieces ts) ∙ ap (map lineOf) (ended-before (map bodyOf ts)) ∙ map-map lineOf bodyOf ts
-    ∙ ap (λ (f : Term → Line). map f ts) (fun-ext body-read)
+    ap (λ (ls : List (List ℕ)). map lineOf (ended ls)) (text-pieces ts) ∙ ap (map lineOf) (ended-before (map termBody ts)) ∙ map-map lineOf termBody ts
+    ∙ ap (λ (f : Term → Line). map f ts) (fun-ext (λ t. line-read (lineOfTerm t)))
 
-every-good : (ts : List Term) → Every (λ l. isLine l ≡ true) (map bodyOf ts)
+every-good : (ts : List Term) → Every (λ l. isLine l ≡ true) (map termBody ts)
 every-good [] = none
-every-good (t ∷ ts) = more (body-good t) (every-good ts)
+every-good (t ∷ ts) = more (line-good (lineOfTerm t)) (every-good ts)
 
 -- and breaks no grammar: 16 never refuses it
 pub text-unbroken : (m i : ℕ) (ts : List Term) → (linesRefusal m i (pieces lineFeed (termsText ts))) .number ≡ 16 → ⊥
-text-unbroken m i ts = rw (text-pieces ts) (unbroken m i (map bodyOf ts) (every-good ts) .not)
+text-unbroken m i ts = rw (text-pieces ts) (unbroken m i (map termBody ts) (every-good ts) .not)

@@ -6,7 +6,7 @@ use mathlib.Core.Logic.{⊎-elim}
 use Prim.Native.Nat.{ℕ, _*_, _/_, _^_, _≤_, _<_}
 use native.Mathlib.Omega.{arith}
 use lib.Dec.{leb}
-use borrow.Author.Tests.{le-leb, lt-leb, leb-true}
+use borrow.Author.Tests.{le-leb, lt-leb}
 use Rattle.modes.specs.declared.Refusal.{Refusal}
 use Rattle.modes.specs.Answers.{refusal, none, rowsDoNotFit, productTooHeavy}
 use Rattle.modes.specs.Refusals.{need, orElse}
@@ -14,7 +14,6 @@ use Rattle.modes.specs.Spaces.{spaceOf, isMade}
 use Rattle.modes.specs.Sums.{amountOf}
 use Rattle.modes.specs.declared.MadeSpace.{MadeSpace}
 use Rattle.modes.specs.declared.MadeSpace.the-variants.{Refused}
-use Rattle.modes.proofs.Bools.{and-l, and-r}
 use Rattle.modes.proofs.Digits.{lt-or-ge}
 use Rattle.modes.proofs.Refusals.{needed, the-first, the-second, or-second, either-way, not-refused}
 use Rattle.record.proofs.Header.{made}
@@ -72,9 +71,7 @@ too-many-modes m h = rw (lt-leb m 64 h, and-false (leb 1 m))
 
 -- a mode count that is not refused
 pub modes-range : (m : ℕ) (r : Refusal) → r ≡ badModes m → r .number ≡ 0 → (1 ≤ m) × (m ≤ 64)
-modes-range m r e z =
-    let range = made m (needed (isMade (spaceOf m)) (refusal 1 1 0) (λ k. absurd (omega arith)) (ap (λ (x : Refusal). x .number) (sym e) ∙ z)) in
-    (leb-true _ _ (and-l (leb 1 m) (leb m 64) range), leb-true _ _ (and-r (leb 1 m) (leb m 64) range))
+modes-range m r e z = made m (needed (isMade (spaceOf m)) (refusal 1 1 0) (λ k. absurd (omega arith)) (ap (λ (x : Refusal). x .number) (sym e) ∙ z))
 
 module _ (m work : ℕ) (text : List ℕ) where
   pub modes-refused : (r : Refusal) → r ≡ badModes m → (r .number ≡ 0 → ⊥) → r ≡ earlyRefusal m work text

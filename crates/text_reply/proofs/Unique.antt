@@ -7,7 +7,8 @@ use Rattle.reply.proofs.Unique.{one-text, one-reply}
 use Rattle.text_reply.specs.TextReplies.{importReply, exportReply}
 
 -- of the text of a record, as `export` promises it
-pub one-export-reply : (room : ℕ) (a : List ℕ) (r s : ℕ) (x y : List ℕ) → Says (exportReply room a) room r x → Says (exportReply room a) room s y → (r ≡ s) × (x ≡ y)
+pub one-export-reply : (room : ℕ) (a : List ℕ) (r s : ℕ) (x y : List ℕ) → Says (exportReply room a) room r x
+    → Says (exportReply room a) room s y → (r ≡ s) × (x ≡ y)
 one-export-reply room a = one-text (exportReply room a) room
 
 -- of the record of a text, and of the work that `import` is lent

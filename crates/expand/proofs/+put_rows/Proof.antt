@@ -5,7 +5,8 @@ use lib.ListN.{length}
 use Rattle.integers.proofs.SignedNumbers.{abs-fits}
 use Rattle.products.proofs.Multiplied.{lowest-is}
 use Rattle.expand.specs.Writing.{ladderIn}
-use Rattle.expand.proofs.Writing.{Field, Words, Lowest, last-room, last-wrote, ladder-below, nearer, low-writable, high-writable, gone-wrote, left-one, single-wrote, twofold-wrote}
+use Rattle.expand.proofs.Writing.{Field, Words, Lowest, last-room, last-wrote, ladder-below, nearer, low-writable, high-writable}
+use Rattle.expand.proofs.Writing.{gone-wrote, left-one, single-wrote, twofold-wrote}
 use borrow.Author.Needs.{needs}
 use native.Mathlib.Omega.{arith}
 use borrow.Fn.Kinds.{In}
