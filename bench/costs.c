@@ -42,6 +42,7 @@ static uint8_t batch[32 * BATCH + 24 * IN_TURN]; /* records that are looked at i
 static uint8_t *batched[BATCH];
 static size_t batch_len[BATCH];
 static int n_batch;
+static uint64_t batch_words[IN_TURN / TERMS][2][TERMS]; /* their words, of the longest records */
 static double floats[TERMS], value[2];
 static uint8_t text[FERMION_MAX_TEXT];
 static size_t text_len;
@@ -166,6 +167,32 @@ static size_t any_words(uint8_t *to, size_t n)
     return record_of(to, 64, terms, n);
 }
 
+/* n different terms {p|q} on 64 modes */
+static size_t one_body(uint8_t *to, size_t n)
+{
+    static struct term terms[TERMS];
+    for (size_t i = 0; i < n;) {
+        struct term t = {UINT64_C(1) << next() % 64, UINT64_C(1) << next() % 64, 1};
+        size_t j = 0;
+        while (j < i && (terms[j].ann != t.ann || terms[j].cre != t.cre))
+            j++;
+        if (j == i)
+            terms[i++] = t;
+    }
+    return record_of(to, 64, terms, n);
+}
+
+/* terms {w|w} of random words on all modes */
+static size_t any_diagonal(uint8_t *to, size_t n)
+{
+    static struct term terms[TERMS];
+    for (size_t i = 0; i < n; i++) {
+        uint64_t w = next();
+        terms[i] = (struct term){w, w, 1};
+    }
+    return record_of(to, 64, terms, n);
+}
+
 static double now(void)
 {
     struct timespec t;
@@ -188,7 +215,7 @@ static double once(run_of *run)
     return passed / (double)calls;
 }
 
-static uint64_t bra, ket, basis[8];
+static uint64_t bra, ket, basis[8], kets[1000];
 static size_t work_len;
 
 static void run_apply(void)
@@ -197,7 +224,6 @@ static void run_apply(void)
         lib->apply(words[0][i], words[1][i], ket, answer);
     answer[0] = 0; /* that a term gives Zero is no refusal */
 }
-static uint64_t kets[1000];
 static void run_apply_each(void)
 {
     for (int i = 0; i < 1000; i++)
@@ -229,6 +255,21 @@ static void run_batch_report(void)
         memset(report, 0, sizeof report);
     for (int i = 0; i < n_batch; i++)
         lib->report_add(batched[i], batch_len[i], report, answer);
+}
+static void run_batch_element(void)
+{
+    for (int i = 0; i < n_batch; i++)
+        lib->element(batched[i], batch_len[i], kets[i], kets[i], answer);
+}
+static void run_batch_mat_elem(void)
+{
+    for (int i = 0; i < n_batch; i++)
+        lib->mat_elem_real(64, batch_words[i][0], TERMS, batch_words[i][1], TERMS, floats, TERMS, kets[i], kets[i], value, answer);
+}
+static void run_batch_matrix(void)
+{
+    for (int i = 0; i < n_batch; i++)
+        lib->mat_ortho_projected(batched[i], batch_len[i], kets + 8 * i, 8, matrix, answer);
 }
 static void run_import(void) { lib->import(64, text, text_len, work, work_len, out, RECORD, answer); }
 static void run_export(void) { lib->export(one, one_len, text, sizeof text, answer); }
@@ -292,11 +333,11 @@ static void line(const char *call, const char *on, run_of *run, int calls)
     }
 }
 
-static void columns_of(const uint8_t *record)
+static void columns_of(const uint8_t *record, uint64_t to[2][TERMS])
 {
     for (size_t i = 0; i < TERMS; i++) {
-        memcpy(&words[1][i], record + 32 + 8 * i, 8);
-        memcpy(&words[0][i], record + 32 + 8 * (TERMS + i), 8);
+        memcpy(&to[1][i], record + 32 + 8 * i, 8);
+        memcpy(&to[0][i], record + 32 + 8 * (TERMS + i), 8);
         floats[i] = 1.0 / (double)(i + 1);
     }
 }
@@ -322,17 +363,22 @@ static size_t too_few_modes(uint8_t *to, size_t n) /* refused at one of the firs
     return len;
 }
 
-/* The checks of a batch, and the report that counts it, where every library has it. */
-static void count_batch(size_t n, const char *of, maker *make)
+static void make_batch(size_t n, maker *make)
 {
     uint8_t *to = batch;
-    char on[128];
-    int all = 1;
     n_batch = n > IN_TURN / BATCH ? (int)(IN_TURN / n) : BATCH;
     for (int i = 0; i < n_batch; i++) {
         batched[i] = to;
         to += batch_len[i] = make(to, n);
     }
+}
+
+/* The checks of a batch, and the report that counts it, where every library has it. */
+static void count_batch(size_t n, const char *of, maker *make)
+{
+    char on[128];
+    int all = 1;
+    make_batch(n, make);
     snprintf(on, sizeof on, "%d records in turn, %s", n_batch, of);
     for (int i = 0; i < n_libraries; i++)
         all = all && libraries[i].report_add != NULL;
@@ -358,9 +404,30 @@ static void count_batches(void)
     count_batch(TERMS, "2,048 terms {w\\|w} of 62 or 63 modes", all_but_two);
 }
 
+/* Elements of a batch of the longest records, each on eight kets of its own. */
+static void elements_in_turn(const char *on, maker *make)
+{
+    make_batch(TERMS, make);
+    for (int i = 0; i < n_batch; i++)
+        columns_of(batched[i], batch_words[i]);
+    line("element", on, run_batch_element, n_batch);
+    line("mat_elem_real", on, run_batch_mat_elem, n_batch);
+    line("mat_ortho_projected", on, run_batch_matrix, n_batch);
+}
+
+static void all_elements_in_turn(void)
+{
+    for (int i = 0; i < 1000; i++)
+        kets[i] = next();
+    elements_in_turn("16 records in turn, 2,048 one-body terms, 64 modes, drawn kets", one_body);
+    for (int i = 0; i < 1000; i++)
+        kets[i] = UINT64_MAX ^ (i % 8 ? UINT64_C(1) << i % 64 : 0);
+    elements_in_turn("16 records in turn, 2,048 terms {w\\|w} of random words, nearly all modes occupied", any_diagonal);
+}
+
 static void read_one(const char *on)
 {
-    columns_of(one);
+    columns_of(one, words);
     line("apply", on, run_apply, 1000);
     line("check", on, run_check, 1);
     line("max_n_body", on, run_max_n_body, 1);
@@ -493,6 +560,7 @@ int main(int argc, char **argv)
 
     work_len = WORK;
     branching_lines();
+    all_elements_in_turn();
     count_batches();
     return 0;
 }

@@ -10,10 +10,12 @@ library=$("$root/tools/shared_object.sh" | tail -n 1)
 echo "the library: ${library#*: }"
 library=${library%%: *}
 sh "$root/oracle/bench_mul.sh" "$library"
-for program in add commutator matrix n_body float; do
+for program in add commutator n_body; do
     echo "== $program"
     "$root/oracle/build/unchanged/target/release/bench_$program" "$library"
 done
+echo "== elements, projected matrices and exchange counts"
+"$root/bench/exchanges.sh"
 echo "== the sort, on an order made against it"
 python3 "$root/bench/against_sort.py"
 echo "== a prepared list of float terms, from Python"

@@ -79,7 +79,7 @@ fi
 cd "$tree"
 export CARGO_TARGET_DIR="$tree/target"
 cargo --config cargo-config.toml build --quiet -j1 --release
-echo "built oracle/build/$kind/target/release/oracle and the programs bench_mul, bench_add, bench_commutator, bench_float, bench_matrix, bench_n_body"
+echo "built oracle/build/$kind/target/release/oracle and the programs bench_mul, bench_add, bench_commutator, bench_count, bench_float, bench_matrix, bench_n_body"
 if [ "$debug" = yes ]; then
     cargo --config cargo-config.toml build --quiet -j1
     echo "built oracle/build/$kind/target/debug/oracle"

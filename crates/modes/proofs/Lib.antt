@@ -7,6 +7,7 @@ pub mod Lowest
 pub mod LowestMode
 pub mod Single
 pub mod Before
+pub mod Halves
 pub mod Every
 pub mod Refusals
 pub mod Never

@@ -1,17 +1,16 @@
 -- What the code's tests on words say, and that its answers are those of the phase rule.
 use mathlib.Core.Path.{_≡_, refl, sym, ap, ap₂, _∙_, fun-ext}
 use mathlib.Core.Bool.{Bool, true, false, not, _&&_, and-false}
-use Prim.Native.Nat.{ℕ, _+_, _-_, _^_, _<_}
+use Prim.Native.Nat.{ℕ, _-_, _^_, _<_}
 use native.Mathlib.Omega.{arith}
 use native.Mathlib.Nat.{lt-of-le-of-lt}
 use lib.Bits.{bitAnd, bitOr, bitXor, and-le-l, and-le-r, xor-add-and, or-disjoint, xor-disjoint, and-comm}
 use Rattle.modes.specs.Bools.{_⊕_}
 use Rattle.modes.specs.Words.{Modes, bit, lowestMode}
-use Rattle.modes.specs.Counts.{parity, exchanges}
+use Rattle.modes.specs.Counts.{odd, oddExchanges}
 use Rattle.modes.specs.declared.Sign.{Sign}
 use Rattle.modes.proofs.Bools.{⊕-false, false-⊕, ⊕-self, and-l, and-r}
-use Rattle.modes.proofs.Digits.{bit-xor, bit-and, bit-none, ext}
-use Rattle.modes.proofs.Counts.{parity-add, exchanges-odd}
+use Rattle.modes.proofs.Digits.{bit-xor, bit-and, bit-none, odd-xor, ext}
 use Rattle.modes.proofs.LowestMode.{lowest-lt}
 use Rattle.products.specs.Apply.{isMissing, isOccupied, applied}
 use Rattle.products.specs.declared.Blocked.the-variants.{Missing, Occupied}
@@ -93,10 +92,10 @@ module _ (cre ann ket : ℕ) (hc : cre < 2 ^ 64) (ha : ann < 2 ^ 64) where
       sym (zero-where-occupied cre ann ket hc ha p (first-occupied cre ann ket hc ha (held m) p (sym (e ∙ ap (lowestMode 64) (occupied-bits m)))
       (rw e (lowest-lt 64 occupied (lt-of-le-of-lt (and-le-l cre after) hc) n))))
 
-  -- x and y are the two exchange counts, and s the sign of their sum
+  -- x and y have as many modes, modulo 2, as there are exchanges of the annihilations and of the creations, and s is their sign
   pub applied-is : bitAnd ket ann ≡ ann → occupied ≡ 0 → (x y : ℕ) (s : Sign)
-      → x ≡ exchanges 64 (bit ket) (bit ann) → y ≡ exchanges 64 (bit after) (bit cre) → s .0 ≡ parity (x + y)
-      → Applied (bitOr after cre) s ≡ applied cre ann ket
+      → odd 64 (bit x) ≡ oddExchanges 64 (bit ket) (bit ann) → odd 64 (bit y) ≡ oddExchanges 64 (bit after) (bit cre)
+      → s .0 ≡ odd 64 (bit (bitXor x y)) → Applied (bitOr after cre) s ≡ applied cre ann ket
   applied-is e d x y s p q r =
       ap₂ Applied word (sign-path (r ∙ sign)) ∙ sym (applied-where-ready cre ann ket hc ha (record { held = held e; free = free e d }))
     where
@@ -109,7 +108,5 @@ module _ (cre ann ket : ℕ) (hc : cre < 2 ^ 64) (ha : ann < 2 ^ 64) where
       word : bitOr after cre ≡ bitXor after cre
       word = or-disjoint after cre apart ∙ sym (xor-disjoint after cre apart)
 
-      sign : parity (x + y) ≡ signOf cre ann ket
-      sign =
-          parity-add x y
-          ∙ ap₂ (λ (a b : Bool). a ⊕ b) (ap parity p ∙ exchanges-odd 64 (bit ket) (bit ann)) (ap parity q ∙ exchanges-odd 64 (bit after) (bit cre))
+      sign : odd 64 (bit (bitXor x y)) ≡ signOf cre ann ket
+      sign = odd-xor 64 x y ∙ ap₂ (λ (a b : Bool). a ⊕ b) p q

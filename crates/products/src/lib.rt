@@ -35,9 +35,20 @@ pub enum ApplyResult {
 }
 
 // The number of set bits of `word` below each set bit of `at`, summed together: the exchanges that it takes to
-// insert or remove, one at a time, the ladder operators of `at` against the occupation `word`.
+// insert or remove, one at a time, the ladder operators of `at` against the occupation `word`. Few bits of `at` are sooner
+// looked at one by one.
 pub fn count_before_each_set_bit(word: u64, at: u64) -> u32
     ensures { λ r. ⌜ (r ≡ exchanges 64 (bit word) (bit at)) × (r ≤ 4096) ⌝ }
+{
+    if u64::count_ones(at) <= 8 {
+        return count_one_by_one(word, at);
+    }
+    count_by_digits(word, at)
+}
+
+// The same, one set bit of `at` after the other.
+fn count_one_by_one(word: u64, at: u64) -> u32
+    ensures { λ r. ⌜ r ≡ exchanges 64 (bit word) (bit at) ⌝ }
 {
     let mut rest = at;
     let mut count: u32 = 0;
@@ -46,6 +57,24 @@ pub fn count_before_each_set_bit(word: u64, at: u64) -> u32
         let lowest = rest - less;
         count += u64::count_ones(word & (lowest - 1));
         rest = less;
+    }
+    count
+}
+
+// The same for all bits of `at` at once: of the number of bits below each, one binary digit after the other. The lowest is
+// whether an odd number stands below; with every second bit of `left` alone, half of that number does, and its lowest digit is
+// the next. Six digits are enough, since at most 63 bits stand below one.
+fn count_by_digits(word: u64, at: u64) -> u32
+    ensures { λ r. ⌜ r ≡ exchanges 64 (bit word) (bit at) ⌝ }
+{
+    let mut left = word;
+    let mut count: u32 = 0;
+    let mut weight: u32 = 1;
+    while weight < 64 {
+        let odd = odd_before(left);
+        count += weight * u64::count_ones(at & odd);
+        left &= odd;
+        weight *= 2;
     }
     count
 }
@@ -64,9 +93,9 @@ pub fn apply_op_ket_u64(cre: u64, ann: u64, ket: u64) -> ApplyResult
     if cre & ket_after_ann != 0 {
         return ApplyResult::Zero(Blocked::Occupied(modes::lowest_mode(cre & ket_after_ann)));
     }
-    let exponent = count_before_each_set_bit(ket, ann)
-        + count_before_each_set_bit(ket_after_ann, cre);
-    ApplyResult::Applied(ket_after_ann | cre, Sign::from_exchanges(exponent))
+    // for the sign it is enough whether the exchanges of the annihilations and of the creations are odd
+    let passed = odd_before_each_set_bit(ket, ann) ^ odd_before_each_set_bit(ket_after_ann, cre);
+    ApplyResult::Applied(ket_after_ann | cre, sign_of_bits(passed))
 }
 
 // Bit p is set where an odd number of bits of `word` stand below p. Each step doubles how far down a bit looks.

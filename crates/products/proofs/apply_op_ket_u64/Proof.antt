@@ -1,4 +1,4 @@
--- `products::apply_op_ket_u64` meets its contract: its two tests, the modes that they find and its two counts are those of the rule.
+-- `products::apply_op_ket_u64` meets its contract: its two tests, the modes that they find and its sign are those of the rule.
 use borrow.Author.Needs.{needs}
 use native.Mathlib.Omega.{arith}
 use lib.Bits.{and-le-r}
@@ -27,26 +27,25 @@ returns-2 c =
     zero-occupied (s .args .cre) (s .args .ann) (s .args .ket) (s .fits .cre .fits) (s .fits .ann .fits) (c .before .before .if1 .left)
     (c .before .if2 .taken) (c .lowest-mode2 .result) (c .lowest-mode2 .ensures)
 
-count-before-each-set-bit-requires : tie.Need-count-before-each-set-bit-requires
-count-before-each-set-bit-requires c κs = search needs
+odd-before-each-set-bit-requires : tie.Need-odd-before-each-set-bit-requires
+odd-before-each-set-bit-requires c κs = search needs
 
-count-before-each-set-bit-requires-2 : tie.Need-count-before-each-set-bit-requires-2
-count-before-each-set-bit-requires-2 c κs = search needs
+odd-before-each-set-bit-requires-2 : tie.Need-odd-before-each-set-bit-requires-2
+odd-before-each-set-bit-requires-2 c κs = search needs
 
-add-exponent : tie.Need-add-exponent
-add-exponent c = search needs
-
-from-exchanges-requires : tie.Need-from-exchanges-requires
-from-exchanges-requires c κs = search needs
+sign-of-bits-requires : tie.Need-sign-of-bits-requires
+sign-of-bits-requires c κs = search needs
 
 returns-3 : tie.Need-returns-3
 returns-3 c =
-    let s = c .before .before .before .before .before in
-    let one = c .before .before .count-before-each-set-bit in
-    let two = c .before .count-before-each-set-bit2 in
+    let at-two = c .before in
+    let at-one = at-two .before in
+    let s = at-one .before .before .before in
+    let one = at-one .odd-before-each-set-bit in
+    let two = at-two .odd-before-each-set-bit2 in
     applied-is (s .args .cre) (s .args .ann) (s .args .ket) (s .fits .cre .fits) (s .fits .ann .fits)
-    (c .before .before .before .before .if1 .left) (c .before .before .before .if2 .left) (one .result) (two .result) (c .from-exchanges .result)
-    (one .ensures .0) (two .ensures .0) (c .from-exchanges .ensures)
+    (at-one .before .before .if1 .left) (at-one .before .if2 .left) (one .result) (two .result) (c .sign-of-bits .result)
+    (one .ensures) (two .ensures) (c .sign-of-bits .ensures)
 
 pub apply-op-ket-u64-spec : {M : Type 1} → statement M
 apply-op-ket-u64-spec =
@@ -57,8 +56,7 @@ apply-op-ket-u64-spec =
     returns
     lowest-mode-requires-2
     returns-2
-    count-before-each-set-bit-requires
-    count-before-each-set-bit-requires-2
-    add-exponent
-    from-exchanges-requires
+    odd-before-each-set-bit-requires
+    odd-before-each-set-bit-requires-2
+    sign-of-bits-requires
     returns-3)

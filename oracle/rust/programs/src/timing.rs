@@ -38,6 +38,17 @@ pub fn load(program: &str, file: &str, name: &CStr) -> Symbol {
     }
 }
 
+/// The libraries whose files the program is told: one library at one place of its code or at several and, after `--`, an
+/// earlier one likewise.
+pub fn load_all<L>(program: &str, load: impl Fn(&str) -> L) -> Vec<Vec<L>> {
+    let files: Vec<String> = std::env::args().skip(1).collect();
+    let groups: Vec<Vec<L>> = files.split(|f| f == "--").map(|group| group.iter().map(|f| load(f)).collect()).collect();
+    if groups.len() > 2 || groups.iter().any(Vec::is_empty) {
+        fail(program, format!("{program} FILE.so.. [-- EARLIER.so..]"));
+    }
+    groups
+}
+
 /// The best time of one pass so far, and how many passes fill a turn.
 #[derive(Default)]
 pub struct Timing {
@@ -62,4 +73,10 @@ impl Timing {
     pub fn nanoseconds(&self) -> f64 {
         self.best.unwrap_or_default().as_nanos() as f64
     }
+}
+
+/// The mean of a library's times at the places of its code, in nanoseconds.
+pub fn mean<'a>(timings: impl IntoIterator<Item = &'a Timing>) -> f64 {
+    let (sum, n) = timings.into_iter().fold((0.0, 0), |(sum, n), t| (sum + t.nanoseconds(), n + 1));
+    sum / f64::from(n)
 }

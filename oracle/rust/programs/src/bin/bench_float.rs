@@ -1,8 +1,9 @@
 //! Times one element over a list of terms: zixy's `mat_elem_cmpnts` and, in the same process, a library's
-//! `fermion_mat_elem_real`, `fermion_mat_elem_complex` and `fermion_element`.
+//! `fermion_mat_elem_real`, `fermion_mat_elem_complex` and `fermion_element`, and those of an earlier one, where it is named.
+//! Of a library with several files, the same code at several places, the mean counts.
 //!
 //! ```text
-//! bench_float FILE.so
+//! bench_float FILE.so.. [-- EARLIER.so..]
 //! ```
 //!
 //! The lists have 2,048 two-body terms with whole-number coefficients, so that all three calls have one answer, which is
@@ -79,7 +80,7 @@ fn load(file: &str) -> Library {
     }
 }
 
-fn bench(library: &Library, name: &str, q: &Question) {
+fn bench(libraries: &[Vec<Library>], name: &str, q: &Question) {
     let (ann, cre): (Vec<u64>, Vec<u64>) = q.terms.keys().copied().unzip();
     let coefficients: Vec<f64> = q.terms.values().map(|c| *c as f64).collect();
     let (n, bytes) = (q.terms.len(), record(q.modes, &q.terms));
@@ -89,47 +90,52 @@ fn bench(library: &Library, name: &str, q: &Question) {
     let (bra, ket) = (states.get_elem_ref(0), states.get_elem_ref(1));
     let expected = mat_elem_cmpnts(&reals, &bra, &ket);
     let (mut value, mut answer) = ([0f64; 2], [0u64; 8]);
-    let mut times: [Timing; 5] = Default::default();
+    let mut zixy: [Timing; 2] = Default::default();
+    let mut times: Vec<Vec<[Timing; 3]>> = libraries.iter().map(|l| l.iter().map(|_| Default::default()).collect()).collect();
     for _ in 0..ROUNDS {
-        times[0].turn(|| {
+        zixy[0].turn(|| {
             black_box(mat_elem_cmpnts(black_box(&reals), black_box(&bra), black_box(&ket)));
         });
-        times[1].turn(|| {
-            let (cre, ann, c) = (cre.as_ptr(), ann.as_ptr(), coefficients.as_ptr());
-            let (value, answer) = (value.as_mut_ptr(), answer.as_mut_ptr());
-            // SAFETY: every slice is passed with its length; the value has two entries and the answer eight.
-            unsafe { (library.real)(q.modes, cre, n, ann, n, c, n, q.bra, q.ket, value, answer) };
-        });
-        assert!(answer[0] == 0 && value == [expected, 0.0], "the library gave {value:?} {answer:?}, zixy {expected}");
-        times[2].turn(|| {
+        zixy[1].turn(|| {
             black_box(mat_elem_cmpnts(black_box(&complexes), black_box(&bra), black_box(&ket)));
         });
-        times[3].turn(|| {
-            let (cre, ann, c) = (cre.as_ptr(), ann.as_ptr(), coefficients.as_ptr());
-            let (value, answer) = (value.as_mut_ptr(), answer.as_mut_ptr());
-            // SAFETY: as above.
-            unsafe { (library.complex)(q.modes, cre, n, ann, n, c, n, c, n, q.bra, q.ket, value, answer) };
-        });
-        assert!(answer[0] == 0 && value == [expected; 2], "the library gave {value:?} {answer:?}, zixy {expected}");
-        times[4].turn(|| {
-            // SAFETY: as above.
-            unsafe { (library.element)(bytes.as_ptr(), bytes.len(), q.bra, q.ket, answer.as_mut_ptr()) };
-        });
-        assert!(answer[0] == 0 && answer[5] as i64 as f64 == expected, "the library gave {answer:?}, zixy {expected}");
+        for (library, times) in libraries.iter().flatten().zip(times.iter_mut().flatten()) {
+            times[0].turn(|| {
+                let (cre, ann, c) = (cre.as_ptr(), ann.as_ptr(), coefficients.as_ptr());
+                let (value, answer) = (value.as_mut_ptr(), answer.as_mut_ptr());
+                // SAFETY: every slice is passed with its length; the value has two entries and the answer eight.
+                unsafe { (library.real)(q.modes, cre, n, ann, n, c, n, q.bra, q.ket, value, answer) };
+            });
+            assert!(answer[0] == 0 && value == [expected, 0.0], "the library gave {value:?} {answer:?}, zixy {expected}");
+            times[1].turn(|| {
+                let (cre, ann, c) = (cre.as_ptr(), ann.as_ptr(), coefficients.as_ptr());
+                let (value, answer) = (value.as_mut_ptr(), answer.as_mut_ptr());
+                // SAFETY: as above.
+                unsafe { (library.complex)(q.modes, cre, n, ann, n, c, n, c, n, q.bra, q.ket, value, answer) };
+            });
+            assert!(answer[0] == 0 && value == [expected; 2], "the library gave {value:?} {answer:?}, zixy {expected}");
+            times[2].turn(|| {
+                // SAFETY: as above.
+                unsafe { (library.element)(bytes.as_ptr(), bytes.len(), q.bra, q.ket, answer.as_mut_ptr()) };
+            });
+            assert!(answer[0] == 0 && answer[5] as i64 as f64 == expected, "the library gave {answer:?}, zixy {expected}");
+        }
     }
-    let [zixy, real, zixy_complex, complex, exact] = times.map(|t| t.nanoseconds() / n as f64);
-    println!(
-        "{:>6}{name:>11}{zixy:>8.1}{real:>9.1}{:>8.1}{zixy_complex:>11.1}{complex:>9.1}{:>8.1}{exact:>10.1}{:>8.1}",
-        q.modes,
-        zixy / real,
-        zixy_complex / complex,
-        zixy / exact
-    );
+    let [zixy, zixy_complex] = zixy.map(|t| t.nanoseconds() / n as f64);
+    for (times, name) in times.iter().zip([name, "earlier"]) {
+        let [real, complex, exact] = [0, 1, 2].map(|call| timing::mean(times.iter().map(|t| &t[call])) / n as f64);
+        println!(
+            "{:>6}{name:>11}{zixy:>8.1}{real:>9.2}{:>8.1}{zixy_complex:>11.1}{complex:>9.2}{:>8.1}{exact:>10.2}{:>8.1}",
+            q.modes,
+            zixy / real,
+            zixy_complex / complex,
+            zixy / exact
+        );
+    }
 }
 
 fn main() {
-    let file = std::env::args().nth(1).unwrap_or_else(|| timing::fail("bench_float", "bench_float FILE.so".into()));
-    let library = load(&file);
+    let libraries = timing::load_all("bench_float", load);
     println!("ns a term, and how many times as fast as zixy the library is");
     println!(
         "{:>6}{:>11}{:>8}{:>9}{:>8}{:>11}{:>9}{:>8}{:>10}{:>8}",
@@ -137,7 +143,7 @@ fn main() {
     );
     println!("{:>17}{:>8}{:>9}{:>8}{:>11}{:>9}{:>8}{:>10}", "", "real", "real", "", "complex", "complex", "", "element");
     for modes in [16, 32, 64] {
-        bench(&library, "few join", &few_join(modes));
-        bench(&library, "all join", &all_join(modes));
+        bench(&libraries, "few join", &few_join(modes));
+        bench(&libraries, "all join", &all_join(modes));
     }
 }
