@@ -35,8 +35,8 @@ pub enum ApplyResult {
 }
 
 // The number of set bits of `word` below each set bit of `at`, summed together: the exchanges that it takes to
-// insert or remove, one at a time, the ladder operators of `at` against the occupation `word`. Few bits of `at` are sooner
-// looked at one by one.
+// insert or remove, one at a time, the ladder operators of `at` against the occupation `word`. Up to eight bits of `at` are
+// sooner looked at one by one.
 pub fn count_before_each_set_bit(word: u64, at: u64) -> u32
     ensures { λ r. ⌜ (r ≡ exchanges 64 (bit word) (bit at)) × (r ≤ 4096) ⌝ }
 {
