@@ -193,6 +193,17 @@ static size_t any_diagonal(uint8_t *to, size_t n)
     return record_of(to, 64, terms, n);
 }
 
+/* terms of random words, alike but for the first three modes, of which each word has whichever */
+static size_t alike_but_three(uint8_t *to, size_t n)
+{
+    static struct term terms[TERMS];
+    for (size_t i = 0; i < n; i++) {
+        uint64_t w = next() << 3;
+        terms[i] = (struct term){w | next() % 8, w | next() % 8, 1};
+    }
+    return record_of(to, 64, terms, n);
+}
+
 static double now(void)
 {
     struct timespec t;
@@ -423,6 +434,9 @@ static void all_elements_in_turn(void)
     for (int i = 0; i < 1000; i++)
         kets[i] = UINT64_MAX ^ (i % 8 ? UINT64_C(1) << i % 64 : 0);
     elements_in_turn("16 records in turn, 2,048 terms {w\\|w} of random words, nearly all modes occupied", any_diagonal);
+    for (int i = 0; i < 1000; i++)
+        kets[i] = UINT64_MAX << 3 | (uint64_t)(i % 8);
+    elements_in_turn("16 records in turn, 2,048 terms of random words, alike but for three modes, all others occupied", alike_but_three);
 }
 
 static void read_one(const char *on)

@@ -129,7 +129,8 @@ fn add_term(sum: Complex64, c: Complex64, cre: u64, ann: u64, bra: u64, ket: u64
     }
 }
 
-// The sum in the caller's order, refused at the first term that makes it not finite.
+// The sum in the caller's order, refused at the first term that makes it not finite. Only a term that changes just the modes
+// in which bra and ket differ can take ket to bra: most do not, and nothing else is asked of them.
 fn sum_terms(cre: &[u64], ann: &[u64], re: &[f64], im: &[f64], bra: u64, ket: u64) -> FloatElement
     requires { ⌜ OneLength (length (now cre)) (now ann) (now re) (now im) ⌝ }
     ensures { λ r. ⌜ toldBy r ≡ summed bra ket (now (cre .entry)) (now (ann .entry)) (now (re .entry) ∷ now (im .entry) ∷ []) ⌝ }
@@ -138,17 +139,21 @@ fn sum_terms(cre: &[u64], ann: &[u64], re: &[f64], im: &[f64], bra: u64, ket: u6
     let mut left = cre.len();
     while 0 < left {
         let i = cre.len() - left;
-        let c = Complex64 {
-            re: re[i],
-            im: im[i],
-        };
-        sum = add_term(sum, c, cre[i], ann[i], bra, ket);
-        if !are_finite(sum) {
-            return FloatElement::Refused(Refusal {
-                number: 13,
-                operand: 1,
-                place: i as u64,
-            });
+        let created = cre[i];
+        let annihilated = ann[i];
+        if created ^ annihilated == bra ^ ket {
+            let c = Complex64 {
+                re: re[i],
+                im: im[i],
+            };
+            sum = add_term(sum, c, created, annihilated, bra, ket);
+            if !are_finite(sum) {
+                return FloatElement::Refused(Refusal {
+                    number: 13,
+                    operand: 1,
+                    place: i as u64,
+                });
+            }
         }
         left -= 1;
     }

@@ -1,9 +1,10 @@
 -- A sum over the terms of a record, term by term: what is summed and what is left make the element, within the weight.
-use mathlib.Core.Path.{_≡_, sym, ap, _∙_, subst}
-use mathlib.Core.List.{List, []}
-use Prim.Native.Nat.{ℕ, _+_, _^_, _≤_, _<_}
-use native.Mathlib.Nat.{zero-add}
+use mathlib.Core.Path.{_≡_, refl, sym, ap, _∙_, subst}
+use mathlib.Core.List.{List, [], _∷_}
+use Prim.Native.Nat.{ℕ, zero, suc, _+_, _^_, _≤_, _<_}
+use native.Mathlib.Nat.{le-refl, zero-add}
 use native.Mathlib.Omega.{arith}
+use lib.Bits.{bitXor}
 use lib.IntN.{ℤ, pos, natAbs, _+ℤ_, +ℤ-idl, +ℤ-idr, +ℤ-assoc}
 use lib.ListN.{drop}
 use borrow.Author.Tests.{eq-eqb, ne-eqb}
@@ -16,6 +17,7 @@ use Rattle.products.specs.Apply.{applied}
 use Rattle.products.specs.declared.Blocked.{Blocked}
 use Rattle.products.specs.declared.ApplyResult.the-variants.{Applied, Zero}
 use Rattle.products.proofs.Outcomes.{went-where-applied, gone-where-zero}
+use Rattle.products.proofs.Changes.{elsewhere}
 use Rattle.record.specs.Terms.{weight}
 use Rattle.record.specs.Reading.{At}
 use Rattle.integers.proofs.SignedNumbers.{abs-sum}
@@ -25,6 +27,10 @@ use Rattle.integers.proofs.SignedNumbers.{abs-sum}
 module _ (bra ket : ℕ) (t : Term) where
   pub part-zero : {b : Blocked} → Zero b ≡ applied (t .cre) (t .ann) ket → pos 0 ≡ part bra ket t
   part-zero e = sym (ap (adds bra (t .coeff)) (gone-where-zero (t .cre) (t .ann) ket (sym e)))
+
+  -- it changes other modes than those in which bra and ket differ
+  pub part-elsewhere : t .cre < 2 ^ 64 → t .ann < 2 ^ 64 → (bitXor (t .cre) (t .ann) ≡ bitXor bra ket → ⊥) → part bra ket t ≡ pos 0
+  part-elsewhere hc ha n = elsewhere (t .cre) (t .ann) ket hc ha bra n (adds bra (t .coeff)) (pos 0) refl (λ word sign o. rw (ne-eqb word bra o))
 
   module _ (word : ℕ) (sign : Sign) (e : Applied word sign ≡ applied (t .cre) (t .ann) ket) where
     there : part bra ket t ≡ adds bra (t .coeff) (went word (sign .0))
@@ -42,6 +48,19 @@ pub record Summed (bra ket : ℕ) (ts : List Term) (z : ℤ) (i : ℕ) : Type 0 
   pub rest : z +ℤ element bra ket (drop i ts) ≡ element bra ket ts
   pub light : natAbs z + weight (drop i ts) ≤ 2 ^ 60
 
+weight-rest : (ts : List Term) (i : ℕ) → weight (drop i ts) ≤ weight ts
+unfolding weight
+weight-rest ts zero = le-refl _
+weight-rest [] (suc i) = le-refl _
+weight-rest (t ∷ ts) (suc i) = omega (arith, weight-rest ts i)
+
+weight-later : (ts : List Term) (i j : ℕ) → i ≤ j → weight (drop j ts) ≤ weight (drop i ts)
+unfolding weight
+weight-later ts zero j l = weight-rest ts j
+weight-later ts (suc i) zero l = absurd (omega arith)
+weight-later [] (suc i) (suc j) l = le-refl _
+weight-later (t ∷ ts) (suc i) (suc j) l = weight-later ts i j (omega arith)
+
 module _ (bra ket : ℕ) (ts : List Term) where
   pub sum-starts : weight ts ≤ 2 ^ 60 → Summed bra ket ts (pos 0) 0
   sum-starts h = record { rest = +ℤ-idl (element bra ket ts); light = rw (zero-add (weight ts)) h }
@@ -50,6 +69,17 @@ module _ (bra ket : ℕ) (ts : List Term) where
       → (element bra ket (drop i ts) ≡ part bra ket t +ℤ element bra ket (drop (i + 1) ts)) × (weight (drop i ts) ≡ natAbs (t .coeff) + weight (drop (i + 1) ts))
   unfolding sumOf weight
   front i t e = (ap (element bra ket) e, ap weight e)
+
+  -- a term that adds nothing is passed over
+  pub passes : (i : ℕ) (t : Term) → At ts i t → part bra ket t ≡ pos 0 → element bra ket (drop (i + 1) ts) ≡ element bra ket (drop i ts)
+  passes i t e z = sym (front i t e .0 ∙ rw z (+ℤ-idl _))
+
+  -- from the i-th term on to the j-th, where those between add nothing
+  pub sum-passes : (z : ℤ) (i j : ℕ) → i ≤ j → element bra ket (drop j ts) ≡ element bra ket (drop i ts) → Summed bra ket ts z i → Summed bra ket ts z j
+  sum-passes z i j l e g = record {
+    rest = ap (λ (x : ℤ). z +ℤ x) e ∙ g .rest;
+    light = omega (arith, weight-later ts i j l, g .light);
+  }
 
   pub sum-goes : (z p s : ℤ) (i : ℕ) (t : Term) → At ts i t → Summed bra ket ts z i → p ≡ part bra ket t → natAbs p ≤ natAbs (t .coeff) → s ≡ z +ℤ p
       → Summed bra ket ts s (i + 1)

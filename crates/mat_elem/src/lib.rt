@@ -6,13 +6,13 @@ use products::ApplyResult;
 ghost use mathlib.Core.Path.{_≡_};
 ghost use Prim.Native.Nat.{_≤_, _<_, _^_};
 ghost use lib.IntN.{natAbs};
-ghost use lib.ListN.{length, getD, take};
+ghost use lib.ListN.{length, getD, take, drop};
 ghost use Rattle.products.specs.Operators.{part, element};
 ghost use Rattle.modes.specs.Answers.{none};
 ghost use Rattle.record.specs.Layout.{termsIn};
 ghost use Rattle.record.specs.Operands.{readAs};
 ghost use Rattle.modes.specs.Refusals.{firstRefusal};
-ghost use Rattle.record.specs.Reading.{Sound};
+ghost use Rattle.record.specs.Reading.{Holds, Sound};
 ghost use Rattle.mat_elem.specs.Elements.{refusedElement, elementOf};
 ghost use Rattle.mat_elem.specs.Matrix.{outsideAt, stands, repeatAt, basisRefusal, rowOf, matrixOf, refusedMatrix, projectedOf};
 
@@ -44,17 +44,34 @@ fn part_of(t: Term, bra: u64, ket: u64) -> i64
     products::signed_coeff(sign, t.coeff)
 }
 
+// The first term from `from` on that changes just the modes in which bra and ket differ, or n where none does: the terms
+// passed over do not take ket to bra. Most are, and nothing else is asked of them.
+fn next_between(s: &[u8], n: usize, from: usize, bra: u64, ket: u64) -> usize
+    requires { ⌜ Holds (now s) n × (from ≤ n) ⌝ }
+    ensures { λ r. ⌜ (from ≤ r) × (r ≤ n) × (element bra ket (drop r (termsIn (now (s .entry)) n)) ≡ element bra ket (drop from (termsIn (now (s .entry)) n))) ⌝ }
+{
+    let mut i = from;
+    while i < n {
+        let t = record::read_term(s, n, i);
+        if t.cre ^ t.ann == bra ^ ket {
+            return i;
+        }
+        i += 1;
+    }
+    i
+}
+
 // What n terms add. The sum stays within their weight, so that it never wraps.
 fn sum_parts(s: &[u8], n: usize, bra: u64, ket: u64) -> i64
     requires { ⌜ Sound (now s) n ⌝ }
     ensures { λ r. ⌜ r ≡ element bra ket (termsIn (now (s .entry)) n) ⌝ }
 {
     let mut sum: i64 = 0;
-    let mut i = 0;
+    let mut i = next_between(s, n, 0, bra, ket);
     while i < n {
         let t = record::read_term(s, n, i);
         sum = integers::sum(sum, part_of(t, bra, ket));
-        i += 1;
+        i = next_between(s, n, i + 1, bra, ket);
     }
     sum
 }

@@ -2,6 +2,7 @@ pub mod ClosedForm
 pub mod Applied
 pub mod Applying
 pub mod Outcomes
+pub mod Changes
 pub mod Blocking
 pub mod Unique
 pub mod Signs
