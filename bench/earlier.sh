@@ -2,7 +2,10 @@
 # bench/earlier.sh COMMIT: the tree of an earlier commit, in a folder of its own below target/against, whose name it prints.
 set -euo pipefail
 cd "$(dirname "$0")/.."
-commit=$(git rev-parse --verify "$1^{commit}")
+commit=$(git rev-parse --verify --quiet "$1^{commit}") || {
+    echo "bench/earlier.sh: this repository has no commit $1" >&2
+    exit 1
+}
 tree=target/against/$commit
 if [ ! -d "$tree" ]; then
     mkdir -p "$tree"

@@ -21,6 +21,7 @@ use Rattle.products.proofs.Changes.{elsewhere}
 use Rattle.record.specs.Terms.{weight}
 use Rattle.record.specs.Reading.{At}
 use Rattle.integers.proofs.SignedNumbers.{abs-sum}
+use Rattle.mat_elem.specs.Passing.{passed}
 
 -- ---- one term
 
@@ -70,9 +71,32 @@ module _ (bra ket : ℕ) (ts : List Term) where
   unfolding sumOf weight
   front i t e = (ap (element bra ket) e, ap weight e)
 
-  -- a term that adds nothing is passed over
-  pub passes : (i : ℕ) (t : Term) → At ts i t → part bra ket t ≡ pos 0 → element bra ket (drop (i + 1) ts) ≡ element bra ket (drop i ts)
-  passes i t e z = sym (front i t e .0 ∙ rw z (+ℤ-idl _))
+  -- the terms from the first one on to the i-th are passed over, and add nothing
+  pub record Passing (first i : ℕ) : Type 0 where
+    pub steps : i + passed bra ket (drop i ts) ≡ first + passed bra ket (drop first ts)
+    pub same : element bra ket (drop i ts) ≡ element bra ket (drop first ts)
+
+  pub passing-starts : (i : ℕ) → Passing i i
+  passing-starts i = record { steps = refl; same = refl }
+
+  module _ (first i : ℕ) (g : Passing first i) where
+    pub passing-goes : (t : Term) → At ts i t → t .cre < 2 ^ 64 → t .ann < 2 ^ 64 → (bitXor (t .cre) (t .ann) ≡ bitXor bra ket → ⊥) → Passing first (i + 1)
+    unfolding passed
+    passing-goes t e hc ha n =
+        let more : passed bra ket (drop i ts) ≡ suc (passed bra ket (drop (i + 1) ts)) = ap (passed bra ket) e ∙ rw (ne-eqb _ _ n) in
+        let none : element bra ket (drop i ts) ≡ element bra ket (drop (i + 1) ts) = front i t e .0 ∙ rw (part-elsewhere bra ket t hc ha n) (+ℤ-idl _) in
+        record { steps = omega (arith, more, g .steps); same = sym none ∙ g .same }
+
+    none-more : passed bra ket (drop i ts) ≡ 0 → i ≡ first + passed bra ket (drop first ts)
+    none-more none = omega (arith, none, g .steps)
+
+    pub passing-stops : (t : Term) → At ts i t → bitXor (t .cre) (t .ann) ≡ bitXor bra ket → i ≡ first + passed bra ket (drop first ts)
+    unfolding passed
+    passing-stops t e h = none-more (ap (passed bra ket) e ∙ rw (eq-eqb _ _ h))
+
+    pub passing-ends : drop i ts ≡ [] → i ≡ first + passed bra ket (drop first ts)
+    unfolding passed
+    passing-ends e = none-more (ap (passed bra ket) e)
 
   -- from the i-th term on to the j-th, where those between add nothing
   pub sum-passes : (z : ℤ) (i j : ℕ) → i ≤ j → element bra ket (drop j ts) ≡ element bra ket (drop i ts) → Summed bra ket ts z i → Summed bra ket ts z j

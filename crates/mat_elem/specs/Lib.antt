@@ -1,2 +1,3 @@
 pub mod Elements
+pub mod Passing
 pub mod Matrix

@@ -4,7 +4,7 @@ use modes::Refusal;
 use modes::Term;
 use products::ApplyResult;
 ghost use mathlib.Core.Path.{_≡_};
-ghost use Prim.Native.Nat.{_≤_, _<_, _^_};
+ghost use Prim.Native.Nat.{_+_, _≤_, _<_, _^_};
 ghost use lib.IntN.{natAbs};
 ghost use lib.ListN.{length, getD, take, drop};
 ghost use Rattle.products.specs.Operators.{part, element};
@@ -14,6 +14,7 @@ ghost use Rattle.record.specs.Operands.{readAs};
 ghost use Rattle.modes.specs.Refusals.{firstRefusal};
 ghost use Rattle.record.specs.Reading.{Holds, Sound};
 ghost use Rattle.mat_elem.specs.Elements.{refusedElement, elementOf};
+ghost use Rattle.mat_elem.specs.Passing.{passed};
 ghost use Rattle.mat_elem.specs.Matrix.{outsideAt, stands, repeatAt, basisRefusal, rowOf, matrixOf, refusedMatrix, projectedOf};
 
 // An exact element; 0 where it is refused.
@@ -48,7 +49,7 @@ fn part_of(t: Term, bra: u64, ket: u64) -> i64
 // passed over do not take ket to bra. Most are, and nothing else is asked of them.
 fn next_between(s: &[u8], n: usize, from: usize, bra: u64, ket: u64) -> usize
     requires { ⌜ Holds (now s) n × (from ≤ n) ⌝ }
-    ensures { λ r. ⌜ (from ≤ r) × (r ≤ n) × (element bra ket (drop r (termsIn (now (s .entry)) n)) ≡ element bra ket (drop from (termsIn (now (s .entry)) n))) ⌝ }
+    ensures { λ r. ⌜ (r ≡ from + passed bra ket (drop from (termsIn (now (s .entry)) n))) × (r ≤ n) × (element bra ket (drop r (termsIn (now (s .entry)) n)) ≡ element bra ket (drop from (termsIn (now (s .entry)) n))) ⌝ }
 {
     let mut i = from;
     while i < n {

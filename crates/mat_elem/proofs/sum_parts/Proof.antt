@@ -1,6 +1,7 @@
 -- `mat_elem::sum_parts` meets its contract: the invariant is that what is summed and what is left make the element.
 use mathlib.Core.Path.{ap, _∙_}
 use Prim.Native.Nat.{_+_, _-_, _≤_, zero-le}
+use native.Mathlib.Omega.{arith}
 use lib.IntN.{ℤ, _+ℤ_}
 use mir.Facts.{toZ-ofZ}
 use mir.Syntax.{w64}
@@ -27,7 +28,7 @@ loop-holds c =
     let terms = termsIn (s .args .s .now) (s .args .n) in
     let next = c .next-between in
     let none-yet = sum-starts (s .args .bra) (s .args .ket) terms (s .pre .light) in
-    (next .ensures .1, sum-passes (s .args .bra) (s .args .ket) terms _ 0 (next .result) (next .ensures .0) (next .ensures .2) none-yet)
+    (next .ensures .1, sum-passes (s .args .bra) (s .args .ket) terms _ 0 (next .result) zero-le (next .ensures .2) none-yet)
 
 read-term-requires : tie.Need-read-term-requires Inv-loop μ-loop
 read-term-requires c κs = let s = c .before .before .before .before in (s .pre .size, c .loop-test .taken)
@@ -72,7 +73,8 @@ loop-again c =
     let sum = toZ w64 (ofZ w64 (at-sum .sum .result)) in
     let with-it = sum-goes (s .args .bra) (s .args .ket) terms (toZ w64 (l .sum)) (p .result) sum (l .i) (t .result) (t .ensures) (l .inv .1) (p .ensures .0) (p .ensures .1)
     (toZ-ofZ sums ∙ at-sum .sum .ensures ∙ ap (λ (z : ℤ). toZ w64 (l .sum) +ℤ z) (toZ-ofZ fits)) in
-    (next .ensures .1, sum-passes (s .args .bra) (s .args .ket) terms sum (l .i + 1) (next .result) (next .ensures .0) (next .ensures .2) with-it)
+    let on : l .i + 1 ≤ next .result = omega (arith, next .ensures .0) in
+    (next .ensures .1, sum-passes (s .args .bra) (s .args .ket) terms sum (l .i + 1) (next .result) on (next .ensures .2) with-it)
 
 returns : tie.Need-returns Inv-loop μ-loop
 returns c =
