@@ -1,4 +1,5 @@
 // How many branches the products of two records have: the rows of work that they take, told without work.
+#![tactic(auto)]
 ghost use Rattle.std.specs.Prelude.{◌≡◌, ◌+◌, ◌^◌, ◌≤◌};
 ghost use Rattle.std.specs.Int.Count.{ones};
 ghost use Rattle.record.specs.Operands.{read_as};
@@ -14,7 +15,7 @@ use modes::{Refusal, Term};
 const MOST: u64 = 384_307_168_202_282_325;
 
 // The branches of a b and of b a, both 0 where the records are refused.
-#[derive(Drop)]
+#[derive(Clone, Copy)]
 pub struct BranchCounts {
     pub refusal: Refusal,
     pub forward: u64,

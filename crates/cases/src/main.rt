@@ -1,5 +1,6 @@
 // Runs the code on the numbered cases and on the stored answers of the Rust that stand in the file `stdin`, and prints
 // how many it compared and the first that differs.
+#![tactic(auto)]
 ghost use Rattle.std.specs.Prelude.{◌<◌};
 
 use libc::{STDIN_FILENO, STDOUT_FILENO};
@@ -7,7 +8,7 @@ use modes::Sign;
 use products::{ApplyResult, Blocked};
 
 // How many answers were compared, how many differ, and which was the first to, counted from 1.
-#[derive(Drop)]
+#[derive(Clone, Copy)]
 struct Tally {
     compared: u64,
     differ: u64,

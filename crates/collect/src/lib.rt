@@ -1,4 +1,5 @@
 // Rows of 24 bytes in lent memory collected: sorted, like rows joined, zeros dropped.
+#![tactic(auto)]
 ghost use Rattle.std.specs.Prelude.{◌≡◌, ◌+◌, ◌*◌, ◌≤◌, ◌<◌, ◌^◌, nat_abs, length};
 ghost use Rattle.lent.specs.Rows.{Fit, row_at, rows_at};
 ghost use Rattle.collect.specs.KeyWeights.{Light};
@@ -9,7 +10,7 @@ use modes::Term;
 use places::Places;
 
 // The rows before `place` are done; `row` is in hand until the rows like it are read.
-#[derive(Drop)]
+#[derive(Clone, Copy)]
 struct Open {
     place: usize,
     row: Term,

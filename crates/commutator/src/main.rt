@@ -1,5 +1,6 @@
 // Reads two records from standard input, one after the other, and writes the record of their commutator, or the line
 // `refused N O P`. The input is at most two longest records and one byte: a longer one is refused for that byte already.
+#![tactic(auto)]
 use libc::{STDIN_FILENO, STDOUT_FILENO};
 
 fn main() {

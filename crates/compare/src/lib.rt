@@ -1,4 +1,5 @@
 // The comparison of two records.
+#![tactic(auto)]
 ghost use Rattle.std.specs.Prelude.{◌≡◌, true};
 ghost use Rattle.record.specs.Operands.{read_as};
 ghost use Rattle.normal.specs.Normal.{drop_zeros};
@@ -10,7 +11,7 @@ ghost use Rattle.compare.specs.Finding.{with_term};
 use modes::{Refusal, Sign, Term};
 
 // Equal; or different, with the bra and the ket at which the elements differ. False, 0 and 0 where it is refused.
-#[derive(Drop)]
+#[derive(Clone, Copy)]
 pub struct Compared {
     pub refusal: Refusal,
     pub equal: bool,
@@ -19,7 +20,7 @@ pub struct Compared {
 }
 
 // The term to be named of those gone through, if there is one.
-#[derive(Drop)]
+#[derive(Clone, Copy)]
 struct Found {
     some: bool,
     term: Term,

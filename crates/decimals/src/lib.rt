@@ -1,4 +1,5 @@
 // Numbers in decimal, as ASCII, in lent bytes.
+#![tactic(auto)]
 ghost use Rattle.std.specs.Prelude.{◌≡◌, ◌&&◌, [], ◌∷◌, ◌+◌, ◌-◌, ◌*◌, ◌≤◌, ◌<◌, ◌^◌, length};
 ghost use Rattle.decimals.specs.Decimal.{decimal, field};
 ghost use Rattle.decimals.specs.Numbers.{is_digit, starts_well};
@@ -9,7 +10,7 @@ ghost use Rattle.decimals.specs.Stores.{Stored};
 pub const CEILING: u64 = 1152921504606846976;
 
 // Bytes read as a number: whether they are one, and what they make, as far as one above the ceiling.
-#[derive(Drop)]
+#[derive(Clone, Copy)]
 pub struct Number {
     pub good: bool,
     pub value: u64,

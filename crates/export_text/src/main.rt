@@ -1,5 +1,6 @@
 // Reads a record from standard input, and writes its text, or the line `refused N O P`. The input is at most the longest
 // record and one byte: a longer one is refused for that byte already.
+#![tactic(auto)]
 use libc::{STDIN_FILENO, STDOUT_FILENO};
 
 fn main() {

@@ -1,4 +1,5 @@
 // What the terms of a record have in common: particle conservation, the largest rank, the active modes.
+#![tactic(auto)]
 ghost use Rattle.std.specs.Prelude.{◌≡◌, ◌≤◌, max};
 ghost use Rattle.record.specs.Layout.{terms_in};
 ghost use Rattle.record.specs.Reading.{Holds};
@@ -9,7 +10,7 @@ use modes::{Refusal, Term};
 use record::Tested;
 
 // A number found in a record; 0 where it is refused.
-#[derive(Drop)]
+#[derive(Clone, Copy)]
 pub struct Measured {
     pub refusal: Refusal,
     pub value: u64,
@@ -45,7 +46,7 @@ pub fn larger(x: u64, y: u64) -> u64
 }
 
 // What the terms of a record have in common: conservation, the largest rank, and all modes.
-#[derive(Drop)]
+#[derive(Clone, Copy)]
 struct Figures {
     refusal: Refusal,
     conserving: bool,

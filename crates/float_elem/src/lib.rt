@@ -1,4 +1,5 @@
 // Elements of a list of terms with float coefficients, real or complex, between occupation words.
+#![tactic(auto)]
 ghost use Rattle.std.specs.Prelude.{◌≡◌, [], ◌∷◌, length};
 ghost use Rattle.std.specs.Float.Ieee.Scale.{finite};
 ghost use Rattle.modes.specs.Refusals.{first_refusal};
@@ -11,7 +12,7 @@ use modes::{MadeSpace, ModeSpace, Refusal};
 use products::ApplyResult;
 
 // A complex number; also the running sum of an element.
-#[derive(Drop)]
+#[derive(Clone, Copy)]
 pub struct Complex64 {
     pub re: f64,
     pub im: f64,
@@ -22,7 +23,7 @@ impl Complex64 {
 }
 
 // An element: a real, a complex, or why there is none.
-#[derive(Drop)]
+#[derive(Clone, Copy)]
 pub enum FloatElement {
     Real(f64),
     Complex(Complex64),

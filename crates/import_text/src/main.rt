@@ -1,5 +1,6 @@
 // Reads a ladder text from standard input, and writes its record on as many modes as its argument names, or the line
 // `refused N O P`. The input is at most the longest text and one byte: a longer one is refused for that byte already.
+#![tactic(auto)]
 ghost use Rattle.io.specs.Counts.{IsPrefixLen};
 
 use libc::{STDIN_FILENO, STDOUT_FILENO};

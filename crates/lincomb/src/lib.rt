@@ -1,4 +1,5 @@
 // The sum and the difference of two records.
+#![tactic(auto)]
 ghost use Rattle.std.specs.Prelude.{◌≡◌, cond, ◌+◌, ◌≤◌, ◌<◌, ◌^◌, eqb, nat_abs, length};
 ghost use Rattle.record.specs.Operands.{read_as};
 ghost use Rattle.lent.specs.Outputs.{Gives, filled_output};
@@ -13,7 +14,7 @@ use modes::{Refusal, Sign, Term, Written};
 use results::Tally;
 
 // A term, and how many terms of each record are taken with it.
-#[derive(Drop)]
+#[derive(Clone, Copy)]
 pub struct Step {
     pub term: Term,
     pub left: usize,

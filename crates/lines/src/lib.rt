@@ -1,10 +1,11 @@
 // The grammar of ladder text: pieces of a text, and a line read.
+#![tactic(auto)]
 ghost use Rattle.std.specs.Prelude.{◌≡◌, ◌&&◌, ◌||◌, ◌+◌, ◌≤◌, ◌<◌, ◌^◌, eqb, ltb, length, drop};
 ghost use Rattle.lines.specs.Grammar.{space, creates, annihilates, is_minus};
 ghost use Rattle.lines.specs.Reading.{front, rest, ladder_read, coefficient_read, ladders_read, line_read};
 
 // A field read as a ladder: whether it is one, what it does, and its mode, as far as one above the ceiling.
-#[derive(Drop)]
+#[derive(Clone, Copy)]
 pub struct ReadLadder {
     pub good: bool,
     pub annihilates: bool,
@@ -12,7 +13,7 @@ pub struct ReadLadder {
 }
 
 // A field read as a coefficient: whether it is one, its sign, and its magnitude, as far as one above the ceiling.
-#[derive(Drop)]
+#[derive(Clone, Copy)]
 pub struct ReadCoefficient {
     pub good: bool,
     pub minus: bool,
@@ -21,7 +22,7 @@ pub struct ReadCoefficient {
 
 // A line: whether it is one, whether all its modes are below the number asked, how many ladders it has, and the magnitude
 // of its coefficient, as far as one above the ceiling.
-#[derive(Drop)]
+#[derive(Clone, Copy)]
 pub struct ReadLine {
     pub good: bool,
     pub inside: bool,
@@ -30,7 +31,7 @@ pub struct ReadLine {
 }
 
 // The ladders of a line: whether all are ladders, whether all their modes are below the number asked, and how many.
-#[derive(Drop)]
+#[derive(Clone, Copy)]
 struct ReadLadders {
     good: bool,
     inside: bool,

@@ -1,4 +1,5 @@
 // Elements of a record between occupation words.
+#![tactic(auto)]
 ghost use Rattle.std.specs.Prelude.{◌≡◌, ◌+◌, ◌≤◌, ◌<◌, ◌^◌, nat_abs, length, get_or, take, drop};
 ghost use Rattle.products.specs.Operators.{part, element};
 ghost use Rattle.modes.specs.Answers.{none};
@@ -14,7 +15,7 @@ use modes::{ModeSpace, Refusal, Term};
 use products::ApplyResult;
 
 // An exact element; 0 where it is refused.
-#[derive(Drop)]
+#[derive(Clone, Copy)]
 pub struct Exact {
     pub refusal: Refusal,
     pub value: i64,
@@ -100,13 +101,13 @@ pub fn element(a: &[u8], bra: u64, ket: u64) -> Exact
 pub const MOST_WORDS: usize = 8;
 
 // A row of the projected matrix: one bra, and an entry for each ket.
-#[derive(Drop)]
+#[derive(Clone, Copy)]
 pub struct Row {
     pub entries: [i64; 8],
 }
 
 // The projected matrix; all entries are 0 where it is refused.
-#[derive(Drop)]
+#[derive(Clone, Copy)]
 pub struct Projected {
     pub refusal: Refusal,
     pub rows: [Row; 8],

@@ -1,4 +1,5 @@
 // Signs, mode spaces, terms and refusals: the values that every other crate is made of.
+#![tactic(auto)]
 ghost use Rattle.std.specs.Prelude.{◌≡◌, true, false, ◌^◌, ◌≤◌, ltb};
 ghost use Rattle.modes.specs.Bools.{◌⊕◌};
 ghost use Rattle.modes.specs.Words.{bit, lowest_mode};
@@ -7,7 +8,7 @@ ghost use Rattle.modes.specs.Spaces.{space_of, inside, word_refusal, words_refus
 ghost use Rattle.modes.specs.Answers.{refused};
 
 // A sign, plus or minus; the bool is true for minus.
-#[derive(Drop)]
+#[derive(Clone, Copy)]
 pub struct Sign(pub bool);
 
 impl Sign {
@@ -34,12 +35,12 @@ impl Sign {
 }
 
 // How many modes there are, from 1 to MAX.
-#[derive(Drop)]
+#[derive(Clone, Copy)]
 pub struct ModeSpace {
     pub count: u64,
 }
 
-#[derive(Drop)]
+#[derive(Clone, Copy)]
 pub enum MadeSpace {
     Made(ModeSpace),
     Refused,
@@ -76,7 +77,7 @@ impl ModeSpace {
 pub const MOST_TERMS: usize = 2048;
 
 // A term of an operator: its creation word, its annihilation word, and its coefficient.
-#[derive(Drop)]
+#[derive(Clone, Copy)]
 pub struct Term {
     pub cre: u64,
     pub ann: u64,
@@ -84,7 +85,7 @@ pub struct Term {
 }
 
 // Why a call was refused: a number, an operand and a place. The number is 0 where it was not.
-#[derive(Drop)]
+#[derive(Clone, Copy)]
 pub struct Refusal {
     pub number: u64,
     pub operand: u64,
@@ -138,7 +139,7 @@ impl Refusal {
 
 // What a call that fills a lent output comes back with: the length in bytes of what stands there, and the rows or
 // branches. Both are 0 after a refusal.
-#[derive(Drop)]
+#[derive(Clone, Copy)]
 pub struct Written {
     pub refusal: Refusal,
     pub len: usize,

@@ -1,4 +1,5 @@
 // The rows of all pairs of terms of two records, gathered at the front of lent work.
+#![tactic(auto)]
 ghost use Rattle.std.specs.Prelude.{◌≡◌, true, ◌++◌, ◌+◌, ◌*◌, ◌≤◌, ◌<◌, ◌^◌, nat_abs, length};
 ghost use Rattle.lent.specs.Rows.{Fit};
 ghost use Rattle.products.specs.Product.{rows_times};
@@ -14,7 +15,7 @@ use products::ProductHelper;
 
 // How many bytes at the front of the work are used for rows, and how many all rows would take, one a branch, with none
 // cancelled. Once these are more than the work has, the rows are too many.
-#[derive(Drop)]
+#[derive(Clone, Copy)]
 pub struct Fill {
     pub used: usize,
     pub held: usize,

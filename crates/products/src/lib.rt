@@ -1,4 +1,5 @@
 // One term on one occupation word, and the rows of one product, by the phase rule.
+#![tactic(auto)]
 ghost use Rattle.std.specs.Prelude.{◌≡◌, not, ℕ, ◌+◌, ◌-◌, ◌*◌, ◌≤◌, ◌<◌, ◌^◌, leb, nat_abs, length};
 ghost use Rattle.std.specs.Int.Count.{ones};
 ghost use Rattle.modes.specs.Words.{bit};
@@ -16,14 +17,14 @@ use modes::{Refusal, Sign, Term, Written};
 
 // What blocks a term on a word: the lowest annihilated mode that is missing from it; or, if none is missing, the lowest created
 // mode that is still occupied once the annihilated ones are removed.
-#[derive(Drop)]
+#[derive(Clone, Copy)]
 pub enum Blocked {
     Missing(u64),
     Occupied(u64),
 }
 
 // What a term makes of a word: a word with a sign; or nothing, and why.
-#[derive(Drop)]
+#[derive(Clone, Copy)]
 pub enum ApplyResult {
     Applied(u64, Sign),
     Zero(Blocked),
@@ -164,7 +165,7 @@ pub fn do_branch(out: &mut [u8], at: usize, left: u64, row: Term) -> usize
 }
 
 // The words of one product L R.
-#[derive(Drop)]
+#[derive(Clone, Copy)]
 pub struct ProductHelper {
     pub l_cre: u64,
     pub l_ann: u64,

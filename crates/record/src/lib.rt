@@ -1,4 +1,5 @@
 // The record: its check, the reading and writing of its terms, and the stretch of one annihilation word.
+#![tactic(auto)]
 ghost use Rattle.std.specs.Prelude.{◌≡◌, true, false, ◌||◌, ◌+◌, ◌*◌, ◌-◌, ◌≤◌, ◌<◌, ◌^◌, nat_abs, length, set};
 ghost use Rattle.lent.specs.Bytes.{put};
 ghost use Rattle.modes.specs.Answers.{refusal};
@@ -25,7 +26,7 @@ pub const LONGEST: usize = 32 + 24 * modes::MOST_TERMS;
 pub const HEAVIEST: u64 = 1_152_921_504_606_846_976;
 
 // What the check found: the refusal, or none with the record's modes, terms and weight, which are 0 after a refusal.
-#[derive(Drop)]
+#[derive(Clone, Copy)]
 pub struct Checked {
     pub refusal: Refusal,
     pub modes: u64,
@@ -47,14 +48,14 @@ impl Checked {
 }
 
 // Where a stretch of bytes begins, and how many there are.
-#[derive(Drop)]
+#[derive(Clone, Copy)]
 pub struct Stretch {
     pub start: usize,
     pub len: usize,
 }
 
 // The answer to a question about a record; false where it is refused.
-#[derive(Drop)]
+#[derive(Clone, Copy)]
 pub struct Tested {
     pub refusal: Refusal,
     pub holds: bool,

@@ -1,4 +1,5 @@
 // A report over records: how many were accepted and refused, and their terms and weights, in all and for each rank.
+#![tactic(auto)]
 ghost use Rattle.std.specs.Prelude.{◌≡◌, true, ◌+◌, ◌≤◌, ◌<◌, ◌^◌, length};
 ghost use Rattle.record.specs.Operands.{read_as};
 ghost use Rattle.report.specs.Reports.{share_in, report_in, within, all_within, is_open, Counts};
@@ -33,7 +34,7 @@ const BAD_REPORT: Refusal = Refusal {
 };
 
 // What became of a record: whether it was accepted, and its own refusal. The call itself is refused where the report is.
-#[derive(Drop)]
+#[derive(Clone, Copy)]
 pub struct Counted {
     pub refusal: Refusal,
     pub accepted: bool,

@@ -1,4 +1,5 @@
 // Calls that write a record: two operands opened, what refuses a result, and rows delivered as a record.
+#![tactic(auto)]
 ghost use Rattle.std.specs.Prelude.{◌≡◌, ◌*◌, ◌≤◌, ◌<◌, length};
 ghost use Rattle.modes.specs.Answers.{none};
 ghost use Rattle.lent.specs.Rows.{rows_at};
@@ -11,7 +12,7 @@ ghost use Rattle.results.specs.Tallies.{Tallied};
 use modes::{Refusal, Written};
 
 // Two records once both are checked: the refusal, or none with their modes, their numbers of terms and their weights.
-#[derive(Drop)]
+#[derive(Clone, Copy)]
 pub struct Opened {
     pub refusal: Refusal,
     pub modes: u64,
@@ -37,7 +38,7 @@ impl Opened {
 }
 
 // How many terms, and their weight.
-#[derive(Drop)]
+#[derive(Clone, Copy)]
 pub struct Tally {
     pub terms: usize,
     pub weight: u64,

@@ -1,4 +1,5 @@
 // A text looked through line by line: its first refusal, or the two sums over its lines.
+#![tactic(auto)]
 ghost use Rattle.std.specs.Prelude.{◌≡◌, ◌+◌, ◌*◌, ◌≤◌, ◌<◌, ◌^◌, leb};
 ghost use Rattle.modes.specs.Answers.{refusal};
 ghost use Rattle.modes.specs.Refusals.{need, or_else};
@@ -9,14 +10,14 @@ use lines::ReadLine;
 use modes::Refusal;
 
 // Over all lines so far, as far as one above the ceiling: magnitudes times 2 to the ladder count, and 2 to the ladder count.
-#[derive(Drop)]
+#[derive(Clone, Copy)]
 pub struct Sums {
     pub burden: u64,
     pub spread: u64,
 }
 
 // The first refusal of a text, or none with its sums.
-#[derive(Drop)]
+#[derive(Clone, Copy)]
 pub struct Scanned {
     pub refusal: Refusal,
     pub sums: Sums,

@@ -1,4 +1,5 @@
 // One shelf for two parties: records put, got and dropped, each party in its own half, and the shelf cleared.
+#![tactic(auto)]
 ghost use Rattle.std.specs.Prelude.{◌≡◌, [], length};
 ghost use Rattle.shelf.specs.Requests.{Put, Get, Drop, unchanged, refused_shelved, slot_refusal, on_half, Leaves};
 ghost use Rattle.shelf.specs.Placing.{reach_of, Placeable};
@@ -43,7 +44,7 @@ const NO_SUCH_SLOT: Refusal = Refusal {
 };
 
 // What a call comes back with: the length of the copy, for a get, and the slot, for a put. Both are 0 after a refusal.
-#[derive(Drop)]
+#[derive(Clone, Copy)]
 pub struct Shelved {
     pub refusal: Refusal,
     pub len: usize,
@@ -63,7 +64,7 @@ impl Shelved {
 }
 
 // The bytes of a shelf that a call may look at, and what refuses it before it looks.
-#[derive(Drop)]
+#[derive(Clone, Copy)]
 struct Reach {
     refusal: Refusal,
     start: usize,

@@ -1,5 +1,6 @@
 // The check of a record, and in the same walk how many of its terms have each rank, and their weight. The walk ends where the check
 // ends. What refuses the record is told behind the loop, from the place alone, which leaves the compiler registers for the terms.
+#![tactic(auto)]
 ghost use Rattle.std.specs.Prelude.{◌≡◌, ◌+◌, ◌^◌, ◌<◌, ◌≤◌, true};
 ghost use Rattle.record.specs.Layout.{laid_out, modes_of, count_of, terms_in};
 ghost use Rattle.record.specs.Reading.{Holds};
@@ -14,7 +15,7 @@ const TOO_HIGH: u64 = 2_305_843_009_213_693_952;
 
 // What was seen of terms: the last one, the sum of their magnitudes in 64 bits, and all bits that the sum had on the way, so that one
 // test finds whether it wrapped.
-#[derive(Drop)]
+#[derive(Clone, Copy)]
 struct Seen {
     first: bool,
     last: Term,
@@ -61,7 +62,7 @@ impl Seen {
 }
 
 // Where a walk over terms ended, and what it had seen of those before.
-#[derive(Drop)]
+#[derive(Clone, Copy)]
 struct Reached {
     seen: Seen,
     place: usize,

@@ -1,4 +1,5 @@
 // Ladder text in and out: a text as a record, and a record as a text.
+#![tactic(auto)]
 ghost use Rattle.std.specs.Prelude.{◌≡◌, ◌*◌, ◌≤◌, ◌<◌, ◌^◌, leb, length};
 ghost use Rattle.modes.specs.Answers.{refusal, rows_do_not_fit, product_too_heavy};
 ghost use Rattle.modes.specs.Refusals.{need, or_else};
@@ -18,7 +19,7 @@ use modes::{MadeSpace, ModeSpace, Refusal, Term, Written};
 use scan::Sums;
 
 // Whether text fitted in an output, and where it then ends.
-#[derive(Drop)]
+#[derive(Clone, Copy)]
 struct Placed {
     fits: bool,
     end: usize,

@@ -7,17 +7,13 @@ use lib.Count.{ones}
 use Rattle.modes.specs.Words.{bit}
 use Rattle.modes.specs.Counts.{count}
 use Rattle.modes.proofs.Counts.{count_ones, count_le}
-use Rattle.modes.proofs.modes_in.Statement.{statement}
-use Rattle.modes.proofs.modes_in.Tie as tie
+use Rattle.modes.proofs.modes_in.Goals as goal
 
 counted : (w : ℕ) → w < 2 ^ 64 → ones w ≡ count 64 (bit w)
 counted w h = ap ones (sym (mod-eq_of_lt h)) ∙ count_ones 64 w
 
-cast-result : tie.Need-overflow-cast-result
-cast-result c = record { fits = omega (arith, counted _ c.ranges.word.fits, count_le 64 (bit c.args.word)) }
+pub overflow_cast-result : goal.overflow_cast-result
+overflow_cast-result c = record { fits = omega (arith, counted _ c.ranges.word.fits, count_le 64 (bit c.args.word)) }
 
-returns : tie.Need-returns
+pub returns : goal.returns
 returns c = (counted _ c.ranges.word.fits, omega (arith, counted _ c.ranges.word.fits, count_le 64 (bit c.args.word)))
-
-pub modes-in-spec : {M : Type 1} → statement M
-modes-in-spec = tie.close (tie.spec cast-result returns)
