@@ -11,8 +11,8 @@ programs=oracle/build/unchanged/target/release
 made=$(mktemp -d)
 trap 'rm -rf "$made"' EXIT
 
-counting() { # TREE NAME: a tree beside it whose face is the count alone, which it prints
-    local crate tree=target/count/$2
+counting() { # TREE NAME: a tree whose face is the count alone, which it prints; outside the repository, as that of earlier.sh
+    local crate tree=${XDG_CACHE_HOME:-$HOME/.cache}/fermion/count/$2
     rm -rf "$tree/crates"
     mkdir -p "$tree/crates/fermion/src" "$tree/tools"
     cp tools/shared_object.sh "$tree/tools/"
@@ -20,9 +20,11 @@ counting() { # TREE NAME: a tree beside it whose face is the count alone, which 
         cp -R "$1/crates/$crate" "$tree/crates/"
         grep "^$crate:" "$1/crates.txt"
     done >"$tree/crates.txt"
-    echo "fermion: modes integers lent products" >>"$tree/crates.txt"
+    echo "fermion staticlib: modes integers lent products" >>"$tree/crates.txt"
     cat >"$tree/crates/fermion/src/lib.rt" <<'RT'
-#[no_mangle]
+#![tactic(auto)]
+
+#[unsafe(no_mangle)]
 pub extern "C" fn fermion_count(word: u64, at: u64) -> u32 {
     products::count_before_each_set_bit(word, at)
 }

@@ -5,8 +5,7 @@ set -euo pipefail
 tree=$1 out=$2
 shift 2
 built=$("$tree/tools/shared_object.sh" | tail -n 1)
-code=("$tree/target/staticlib/fermion.o")
-[ "$(uname -m)" = x86_64 ] && code=(-Wl,--whole-archive "$tree/target/staticlib/libfermion.a" -Wl,--no-whole-archive)
+code=(-Wl,--whole-archive "$tree/target/staticlib/libfermion.a" -Wl,--no-whole-archive)
 for bytes; do
     printf '.text\n.space %d\n.section .note.GNU-stack,"",%%progbits\n' "$bytes" >"$out.s"
     gcc -shared -nostartfiles -o "$out.$bytes.so" "$out.s" "${code[@]}"

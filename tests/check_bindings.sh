@@ -1,6 +1,5 @@
 #!/usr/bin/env bash
-# The bindings for Rust and for Python, tested on the shared object that tools/shared_object.sh makes; on x86-64 that is the
-# archive's own code.
+# The bindings for Rust and for Python, tested on the shared object that tools/shared_object.sh makes.
 set -uo pipefail
 cd "$(dirname "$0")/.." || exit 1
 log=$(mktemp)

@@ -1,18 +1,11 @@
 #!/usr/bin/env bash
 # The functions of the C face, called from C through include/fermion.h and compared with the plain implementation in
-# tests/c. On x86-64 the test is linked with the archive itself, elsewhere with the shared object that
-# tools/shared_object.sh compiles for the machine.
+# tests/c. The test is linked with the archive itself, which tools/shared_object.sh makes.
 set -euo pipefail
 cd "$(dirname "$0")/.."
 work=$(mktemp -d)
 trap 'rm -rf "$work"' EXIT
-built=$(tools/shared_object.sh)
-if [ "$(uname -m)" = x86_64 ]; then
-    code=target/staticlib/libfermion.a
-    echo "called from C: linked with the archive itself"
-else
-    code=${built%%: *}
-    echo "called from C: ${built##*: }"
-fi
-gcc -std=c11 -O2 -Wall -Wextra -Werror -Iinclude tests/c/*.c "$code" -Wl,-rpath,"$PWD/target/native" -o "$work/face"
+tools/shared_object.sh >/dev/null
+echo "called from C: linked with the archive itself"
+gcc -std=c11 -O2 -Wall -Wextra -Werror -Iinclude tests/c/*.c target/staticlib/libfermion.a -o "$work/face"
 "$work/face"

@@ -1,7 +1,7 @@
 #!/usr/bin/env bash
 # tools/install.sh into a fresh folder, which is then moved; and from a folder outside the repository, with nothing that names
 # the repository: the C example by its documented line, as C and as C++, the Python package, pip without a network, and a
-# Rust program on the crate. On x86-64 the archive too.
+# Rust program on the crate; and the archive.
 set -uo pipefail
 cd "$(dirname "$0")/.." || exit 1
 repository=$PWD
@@ -46,11 +46,7 @@ has_all() {
     cmp "$first/include/fermion.h" "$repository/include/fermion.h" || return
     cmp "$first/lib/libfermion.so" "$first/lib/python/fermion/libfermion.so" || return
     same "$(files_of "$first" | grep -E '\.new|__pycache__|/target/')" "" || return
-    if [ "$(uname -m)" = x86_64 ]; then
-        cmp "$first/lib/libfermion.a" "$repository/target/staticlib/libfermion.a"
-    else
-        same "$(files_of "$first" | grep '\.a$')" ""
-    fi
+    cmp "$first/lib/libfermion.a" "$repository/target/staticlib/libfermion.a"
 }
 
 installs_again() { # what is of no use any more goes, and nothing else changes
@@ -263,7 +259,7 @@ check "the refusals by name have the numbers of docs/RECORD.md" refusals_by_numb
 check "the C example by its documented line" documented_line
 check "the C example as C++" as_cpp
 check "the C example with a library in a folder with spaces" in_a_folder_with_spaces
-[ "$(uname -m)" != x86_64 ] || check "the C example with the archive" statically
+check "the C example with the archive" statically
 check "the Python package" from_python "$there/lib/python"
 check "pip installs without a network" by_pip
 check "two wheels are the same bytes, and RECORD is right" wheels_are_right

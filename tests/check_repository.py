@@ -3,12 +3,14 @@
 import glob
 import os
 import re
+import shutil
 import subprocess
+import tempfile
 import textwrap
 
 ROOT = os.path.dirname(os.path.dirname(os.path.abspath(__file__)))
 os.chdir(ROOT)
-FUNCTION = re.compile(r"^\s*(?:#\[no_mangle\]\s*)?pub\s+(?:extern\s+\"C\"\s+)?fn\s+(\w+)", re.M)
+FUNCTION = re.compile(r"^\s*(?:#\[unsafe\(no_mangle\)\]\s*)?pub\s+(?:extern\s+\"C\"\s+)?fn\s+(\w+)", re.M)
 
 
 def text(path):
@@ -60,7 +62,7 @@ def specs_hold_definitions_only():
     return [path for path in sources("specs") if path.endswith(".antt") and re.search(r"\brefl\b|\bomega\b|\brw \(", text(path))]
 
 
-IMPORT = re.compile(r"^(?:ghost )?use Rattle·(\w+)(?:·\w+)?\.(specs|proofs)\.(\w+)\.\{([^}]*)\}", re.M)
+IMPORT = re.compile(r"^(?:ghost )?use Rattle\.(\w+)\.(specs|proofs)\.(\w+)\.\{([^}]*)\}", re.M)
 DEFINITION = re.compile(r"^ *(?:(?:abbrev|unfoldable) (?:pub )?|pub (?:data|record) )(\S+) (?:.+\n)+", re.M)
 INNER = "For inner functions only."
 
@@ -71,13 +73,13 @@ def imports(path):
     for crate, kind, file, listed in IMPORT.findall(text(path)):
         for name in listed.split(","):
             there, _, here = name.strip().partition(" as ")
-            names[(here or there).strip("_")] = f"crates/{crate}/{kind}/{file}.antt", there.strip("_")
+            names[(here or there).strip("◌")] = f"crates/{crate}/{kind}/{file}.antt", there.strip("◌")
     return names
 
 
 def definitions(path):
     """The definitions of a file, each with its text, which ends at an empty line; none where there is no such file."""
-    return {found.group(1).strip("_"): found.group(0) for found in DEFINITION.finditer(text(path))} if os.path.exists(path) else {}
+    return {found.group(1).strip("◌"): found.group(0) for found in DEFINITION.finditer(text(path))} if os.path.exists(path) else {}
 
 
 def pages():
@@ -91,9 +93,9 @@ def words(code):
 
 
 def named_theorems():
-    """(path, theorem) of those that PROMISES names with a crate and a file: `one`, `two` (crate, `File`)."""
-    for names, crate, file in re.findall(r"((?:`[^`\s]+-[^`\s]+`(?:, | and )?)+) \((\w+), `(\w+)`\)", " ".join(text("docs/PROMISES.md").split())):
-        for theorem in re.findall(r"`([^`]+)`", names):
+    """(path, theorem) of those that PROMISES names with a crate and a file: `one`, `two` (crate, `File`). Definitions are named so too."""
+    for names, crate, file in re.findall(r"((?:`[^`\s]+`(?:, | and )?)+) \((\w+), `(\w+)`\)", " ".join(text("docs/PROMISES.md").split())):
+        for theorem in set(re.findall(r"`([^`]+)`", names)) - set(definitions(f"crates/{crate}/specs/{file}.antt")):
             yield f"crates/{crate}/proofs/{file}.antt", theorem
 
 
@@ -195,8 +197,9 @@ def the_readme_names_every_crate():
 
 
 def the_readme_shows_what_its_commands_print():
-    """A block of commands that begins so is run as it stands, and the block after it is the end of what it prints."""
-    begins = "rt check import_text commutator export_text &&", "PYTHONPATH=bindings/python python3 -c "
+    """A block of commands that begins so is run as it stands, and the block after it is the end of what it prints. The programs
+    are those that `rt ci` left."""
+    begins = "for line in '1 0^ 1_' '1 1^ 0_'; do", "PYTHONPATH=bindings/python python3 -c "
     blocks = [textwrap.dedent(block) for block in re.findall(r"(?:^    .*\n)+", text("README.md"), re.M)]
     faults, ran = [], 0
     for command, shown in zip(blocks, blocks[1:]):
@@ -245,8 +248,17 @@ def anchor(heading):
 
 
 def layout_is_the_formatters():
-    run = subprocess.run(["rt", "fmt", "--check"], capture_output=True, text=True)
-    return [] if run.returncode == 0 else [run.stdout + run.stderr]
+    """`rt fmt` changes nothing in a copy of the crates."""
+    faults = []
+    with tempfile.TemporaryDirectory() as copy:
+        shutil.copy("crates.txt", copy)
+        shutil.copytree("crates", os.path.join(copy, "crates"), ignore=shutil.ignore_patterns("out"))
+        for crate in sorted(glob.glob("crates/*")):
+            run = subprocess.run(["rt", "fmt"], cwd=os.path.join(copy, crate), capture_output=True, text=True)
+            faults += [] if run.returncode == 0 else [f"{crate}: {run.stdout}{run.stderr}"]
+        for path in sorted(path for kind in ("src", "specs", "proofs") for path in sources(kind) if os.path.isfile(path)):
+            faults += [] if text(path) == text(os.path.join(copy, path)) else [f"{path}: rt fmt lays it out otherwise"]
+    return faults
 
 
 TESTS = [

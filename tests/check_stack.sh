@@ -1,8 +1,7 @@
 #!/usr/bin/env bash
 # What include/fermion.h says of every function: the stack that it needs, null pointers with length 0, nothing in the library
 # that can be written to, nothing that it needs but memcpy and memset, and no function that is not declared. On the
-# shared object of tools/shared_object.sh and on the archive; where the machine is no x86-64, the archive's code runs under
-# the toolchain's emulator.
+# shared object of tools/shared_object.sh and on the archive.
 set -uo pipefail
 cd "$(dirname "$0")/.." || exit 1
 work=$(mktemp -d)
@@ -56,14 +55,6 @@ natively() { # CODE TO LINK WITH
         -Wl,-rpath,"$PWD/target/native" -o "$work/stack" && "$work/stack"
 }
 
-emulated() { # TOOLCHAIN: the archive, in a program for x86-64 that the toolchain's own compiler and library make
-    "$1/bin/clang" --target=x86_64-unknown-linux-gnu -std=c11 -O2 -fPIE -Wall -Wextra -Werror -ffreestanding -nostdinc \
-        -isystem "$(gcc -print-file-name=include)" -Iinclude -I"$work" -c tests/c_stack/stack.c -o "$work/stack.o" &&
-        "$1/bin/ld.lld" -pie -z now -o "$work/emulated" "$1"/lib/{Scrt1.o,crti.o,crtbeginS.o} "$work/stack.o" \
-            target/staticlib/libfermion.a "$1"/lib/{libc.so.6,libc_nonshared.a,libgcc.a,crtendS.o,crtn.o} &&
-        "$1/bin/qemu-x86_64" "$1/lib/ld-linux-x86-64.so.2" --library-path "$1/lib" "$work/emulated"
-}
-
 if ! built=$(tools/shared_object.sh) || ! orders >"$work/against.h"; then
     echo "0 passed, 1 failed"
     exit 1
@@ -84,12 +75,7 @@ done
 is "what the loader writes to libfermion.so is bound and read-only when it is loaded" \
     "$(readelf -dW "$library" | grep -q BIND_NOW && readelf -lW "$library" | grep -q GNU_RELRO || echo "not bound")"
 is "libfermion.so asks for no stack that can be run" "$(readelf -lW "$library" | grep GNU_STACK | grep 'E ')"
-if [ "$(uname -m)" = x86_64 ]; then
-    ran "the archive, on this machine" natively "$archive"
-else
-    tools=$(cd "$(dirname "$(readlink -f "$(command -v rt)")")/.." && pwd -P)/on/$(uname -m)/toolchain
-    ran "the archive, on x86-64 under the emulator" emulated "$tools"
-fi
+ran "the archive, on this machine" natively "$archive"
 ran "the shared object, on this machine" natively "$library"
 echo "$passed passed, $failed failed"
 [ "$failed" -eq 0 ]

@@ -15,18 +15,24 @@ ROOT = os.path.dirname(os.path.dirname(os.path.abspath(__file__)))
 OLD = b"a library that was built before"
 COMMANDS = """bash sh env dirname basename realpath readlink mkdir sed cat sha256sum find sort head tail mktemp rm mv cp ln
     chmod flock grep tee touch sleep""".split()
-UNAME = "#!/bin/sh\necho x86_64\n"  # the way of x86-64, where gcc alone makes the library of the archive
+# It runs in crates/fermion.
 RT = """#!/bin/sh
 [ "$1" = version ] && echo kit && exit
-echo "$*" >>calls
-mkdir -p target/staticlib && echo an archive >target/staticlib/libfermion.a
+echo "$*" >>../../calls
+mkdir -p out && echo an archive >out/libfermion.a
 echo 'rt: modes proved'
 """
+CALL = b"lib --cpu=x86-64\n"
 RT_THAT_FAILS = RT + "echo 'rt: lent NOT PROVED'\nexit 1\n"
-RT_THAT_WAITS = RT + "i=0\nwhile [ ! -f go ]; do i=$((i + 1)); [ $i -le 200 ] || exit 1; sleep 0.1; done\n"
+RT_THAT_WAITS = RT + "i=0\nwhile [ ! -f ../../go ]; do i=$((i + 1)); [ $i -le 200 ] || exit 1; sleep 0.1; done\n"
 GCC = """#!/bin/sh
 while [ "$1" != -o ]; do shift; done
 printf 'a library' >"$2"
+"""
+RATTLE = """#!/bin/sh
+echo "rattle $1 $3" >>../../calls
+while [ "$1" != -o ]; do shift; done
+echo an archive >"$2"
 """
 GCC_THAT_FAILS = GCC + "echo 'ld: no room' >&2\nexit 1\n"
 
@@ -39,13 +45,14 @@ class Copy:
         self.root, self.path = os.path.join(self.folder, "a tree"), os.path.join(self.folder, "bin")
         self.library = os.path.join(self.root, "target", "native", "libfermion.so")
         shutil.copytree(os.path.join(ROOT, "tools"), os.path.join(self.root, "tools"))
-        self.write("crates.txt", b"fermion: modes\n")
+        self.write("crates.txt", b"modes:\nfermion staticlib: modes\n")
+        self.write("crates/modes/src/lib.rt", b"// a source below\n")
         self.write("crates/fermion/src/lib.rt", b"// a source\n")
         self.write("target/native/libfermion.so", OLD)
         os.mkdir(self.path)
         for name in COMMANDS:
             os.symlink(shutil.which(name), os.path.join(self.path, name))
-        for name, text in dict({"uname": UNAME}, **stand_ins).items():
+        for name, text in stand_ins.items():
             with open(os.path.join(self.path, name), "w", encoding="utf-8") as file:
                 file.write(text)
             os.chmod(os.path.join(self.path, name), 0o755)
@@ -68,13 +75,13 @@ class Copy:
         except FileNotFoundError:
             return None
 
-    def start(self, *words):
-        return subprocess.Popen([os.path.join(self.root, words[0]), *words[1:]], env={"PATH": self.path}, cwd=self.root,
-                                stdin=subprocess.DEVNULL, stdout=subprocess.PIPE, stderr=subprocess.PIPE, text=True)
+    def start(self, *words, **environment):
+        return subprocess.Popen([os.path.join(self.root, words[0]), *words[1:]], env={"PATH": self.path, **environment},
+                                cwd=self.root, stdin=subprocess.DEVNULL, stdout=subprocess.PIPE, stderr=subprocess.PIPE, text=True)
 
-    def run(self, *words):
+    def run(self, *words, **environment):
         """Status, standard output, standard error."""
-        run = self.start(*words)
+        run = self.start(*words, **environment)
         out, err = run.communicate(timeout=60)
         return run.returncode, out, err
 
@@ -135,11 +142,38 @@ def what_is_built_is_not_built_again():
     with Copy(rt=RT, gcc=GCC) as copy:
         first, second = copy.run("tools/shared_object.sh"), copy.run("tools/shared_object.sh")
         expect(faults, first[0] == 0 and second[:2] == first[:2], f"{first} and then {second}")
-        expect(faults, copy.read("calls") == b"staticlib fermion\n", f"calls of rt: {copy.read('calls')}")
+        expect(faults, copy.read("calls") == CALL, f"calls of rt: {copy.read('calls')}")
         copy.write("crates/fermion/src/lib.rt", b"// another source\n")
         copy.run("tools/shared_object.sh")
-        expect(faults, copy.read("calls") == 2 * b"staticlib fermion\n", "a changed source is not built")
+        expect(faults, copy.read("calls") == 2 * CALL, "a changed source is not built")
     return faults
+
+
+def what_rt_ci_has_proved_is_not_proved_again():
+    """But for the crate fermion, and only where no file has changed and no library is older: in seconds after a start."""
+    faults, over = [], b"rattle build fermion\n"
+    times = {"as rt ci leaves it": ((-5, 5), over), "a source that changed": ((3, 5), CALL), "a library that was put back": ((-5, -3), CALL)}
+    for what, ((source, library), calls) in times.items():
+        with Copy(rt=RT, rattle=RATTLE, gcc=GCC) as copy:
+            copy.write("begun", b"")
+            copy.write("crates/modes/out/rlib/modes.rlib/format", b"")
+            begun = os.stat(os.path.join(copy.root, "begun")).st_mtime
+            for name, seconds in ("crates.txt", -5), ("crates/fermion/src", -5), ("crates/fermion/src/lib.rt", -5), ("crates/modes/src", -5), \
+                    ("crates/modes/src/lib.rt", source), ("crates/modes/out/rlib", library):
+                os.utime(os.path.join(copy.root, name), (begun + seconds,) * 2)
+            status, out, err = copy.run("tools/shared_object.sh", PROVED_SINCE="begun")
+            expect(faults, (status, copy.read()) == (0, b"a library"), f"{what}: {status}, the library is {copy.read()!r}: {err}")
+            expect(faults, copy.read("calls") == calls, f"{what}: {copy.read('calls')}")
+            expect(faults, out == f"{copy.library}: x86-64, the archive's own code\n", f"{what}: standard output: {out!r}")
+    return faults
+
+
+def nothing_is_a_link():
+    """rt ci refuses a symbolic link anywhere in the repository."""
+    with Copy(rt=RT, gcc=GCC) as copy:
+        copy.run("tools/shared_object.sh")
+        made = [os.path.join(at, name) for at, folders, files in os.walk(copy.root) for name in folders + files]
+        return [path for path in made if os.path.islink(path)] + ([] if copy.library in made else ["nothing was made"])
 
 
 def a_library_that_was_changed_is_built_again():
@@ -189,7 +223,7 @@ def it_shows_what_it_does_while_it_does_it():
         status = run.wait()
     faults = []
     expect(faults, status == 0, f"rt waited in vain for its line to be seen; status {status}, seen: {seen}")
-    expect(faults, "rt staticlib fermion" in seen[0] if seen else False, f"the first line does not say what is run: {seen}")
+    expect(faults, "rt lib in crates/fermion" in seen[0] if seen else False, f"the first line does not say what is run: {seen}")
     return faults
 
 
@@ -197,8 +231,6 @@ def without_rt_a_sentence_says_so():
     faults = []
     for words in (["tools/shared_object.sh"], ["tools/run.sh", "commutator"], ["tools/install.sh", "there"]):
         with Copy(gcc=GCC) as copy:
-            copy.write("target/bin/commutator", b"#!/bin/sh\n")
-            os.chmod(os.path.join(copy.root, "target/bin/commutator"), 0o755)
             status, out, err = copy.run(*words)
             said = not out and one_sentence(err, "rt ", "PATH", "docs/INSTALL.md")
             expect(faults, status != 0 and said, f"{words}: {status} {out!r} {err!r}")
@@ -242,18 +274,17 @@ def help_is_given():
 def a_program_that_is_not_there():
     with Copy(rt=RT) as copy:
         status, out, err = copy.run("tools/run.sh", "commutator")
-    return [] if status != 0 and not out and one_sentence(err, "rt check commutator") else [f"{status} {out!r} {err!r}"]
+    return [] if status != 0 and not out and one_sentence(err, "'rt run' in crates/commutator") else [f"{status} {out!r} {err!r}"]
 
 
 def the_arguments_are_the_programs():
-    faults, loader = [], "../on/x86_64/toolchain/lib/ld-linux-x86-64.so.2"
+    faults, program = [], "crates/program/out/program"
     for words in [], ["2"], ["a word", "", "*", "--help"]:
-        with Copy(rt=RT) as copy:
-            for path, text in (("target/bin/program", b""), (loader, b'#!/bin/sh\nshift 2\nprintf "%s|" "$@"\n')):
-                copy.write(path, text)
-                os.chmod(os.path.join(copy.root, path), 0o755)
+        with Copy() as copy:
+            copy.write(program, b'#!/bin/sh\nprintf "%s|" "$0" "$@"\n')
+            os.chmod(os.path.join(copy.root, program), 0o755)
             got = copy.run("tools/run.sh", "program", *words)
-            expect(faults, got == (0, "|".join(["target/bin/program", *words, ""]), ""), f"{words}: {got}")
+            expect(faults, got == (0, "|".join([os.path.join(copy.root, program), *words, ""]), ""), f"{words}: {got}")
     return faults
 
 
@@ -281,7 +312,7 @@ def the_library_of_this_repository():
 
 TESTS = [
     a_proof_that_fails_leaves_the_library, a_link_that_fails_leaves_the_library, a_build_replaces_the_library_and_says_which,
-    what_is_built_is_not_built_again, a_library_that_was_changed_is_built_again, a_tree_that_was_moved_names_its_own_library,
+    what_is_built_is_not_built_again, what_rt_ci_has_proved_is_not_proved_again, nothing_is_a_link, a_library_that_was_changed_is_built_again, a_tree_that_was_moved_names_its_own_library,
     a_library_under_the_loaders_name_and_a_relative_path, it_shows_what_it_does_while_it_does_it, without_rt_a_sentence_says_so, without_gcc_a_sentence_says_so,
     without_an_argument_a_sentence_says_how, help_is_given, a_program_that_is_not_there, the_arguments_are_the_programs,
     every_script_can_be_read_by_its_shell,

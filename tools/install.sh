@@ -1,8 +1,8 @@
 #!/usr/bin/env bash
 # tools/install.sh PREFIX: builds the library where that is still to be done and installs all of it under the folder PREFIX:
-# the header, the shared object and on x86-64 the archive, fermion.pc for pkg-config, the Python package with the library
-# inside, the Rust crate, the record's document and a C example. docs/INSTALL.md says how to link. Nothing is written
-# outside PREFIX and target/, and PREFIX may be moved later, as a whole. With DESTDIR set, it is put in front of PREFIX.
+# the header, the shared object, the archive, fermion.pc for pkg-config, the Python package with the library inside, the
+# Rust crate, the record's document and a C example. docs/INSTALL.md says how to link. Nothing is written outside PREFIX,
+# target/ and crates/*/out/, and PREFIX may be moved later, as a whole. With DESTDIR set, it is put in front of PREFIX.
 # Each file comes under another name first and takes its place when it is whole.
 set -euo pipefail
 say() { echo "tools/install.sh: $1" >&2; }
@@ -68,7 +68,7 @@ file include/fermion.h "$root/include/fermion.h" 644
 file "$library" "$root/lib/libfermion.so.$version" 755
 alias_of "libfermion.so.$version" "$root/lib/libfermion.so.0"
 alias_of libfermion.so.0 "$root/lib/libfermion.so"
-[ "$(uname -m)" != x86_64 ] || file target/staticlib/libfermion.a "$root/lib/libfermion.a" 644
+file target/staticlib/libfermion.a "$root/lib/libfermion.a" 644
 sed "s/@VERSION@/$version/" tools/fermion.pc.in >"$scratch/fermion.pc"
 file "$scratch/fermion.pc" "$root/lib/pkgconfig/fermion.pc" 644
 cp "$library" "$scratch/libfermion.so"
