@@ -134,13 +134,14 @@ C
 refusals_by_number() { # in the order of docs/RECORD.md's table
     local names name number=0
     names="OK MALFORMED WORD_OUTSIDE OUT_OF_ORDER ZERO_COEFF TOO_HEAVY MODES_DIFFER ROWS_DO_NOT_FIT PRODUCT_TOO_HEAVY
-        RESULT_TOO_HEAVY TOO_MANY_TERMS OUTPUT_TOO_SHORT OCCUPATION_OUTSIDE NOT_FINITE BAD_BASIS BAD_REPORT BAD_LINE TOO_MANY_LADDERS"
+        RESULT_TOO_HEAVY TOO_MANY_TERMS OUTPUT_TOO_SHORT OCCUPATION_OUTSIDE NOT_FINITE BAD_BASIS BAD_REPORT BAD_LINE TOO_MANY_LADDERS
+        NO_SUCH_PARTY DAMAGED_HALF NO_FREE_SLOT NO_GAP NO_SUCH_SLOT"
     echo '#include <fermion.h>' >numbers.c
     for name in $names; do
         echo "typedef char is_${name}[FERMION_$name == $((number++)) ? 1 : -1];" >>numbers.c
     done
     gcc -std=c99 "-I$there/include" -c numbers.c -o numbers.o || return
-    same "$(sed -n '/^enum fermion_refusal/,/^}/p' "$there/include/fermion.h" | grep -cE '^    FERMION_[A-Z_]+ = [0-9]+')" 18
+    same "$(sed -n '/^enum fermion_refusal/,/^}/p' "$there/include/fermion.h" | grep -cE '^    FERMION_[A-Z_]+ = [0-9]+')" 23
 }
 
 documented_line() { # as the example and docs/INSTALL.md have it

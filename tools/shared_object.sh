@@ -122,7 +122,7 @@ if are_proved; then
     say "proving and compiling the crate fermion over the libraries that rt ci has proved (a minute or two)"
     logged "rattle build" over_proved "$work/libfermion.a"
 else
-    say "proving and compiling: rt lib in crates/fermion (most of an hour from nothing, half a minute where all is proved)"
+    say "proving and compiling: rt lib in crates/fermion (from nothing as long as all proofs take, half a minute where they are kept)"
     logged "rt lib in crates/fermion" by_rt "$work/libfermion.a"
 fi
 logged "gcc -shared" link "$new" "$work/libfermion.a"
