@@ -1,11 +1,13 @@
 // Runs the code on the numbered cases and on the stored answers of the Rust that stand in the file `stdin`, and prints
 // how many it compared and the first that differs.
 #![tactic(auto)]
+
 ghost use Rattle.std.specs.Prelude.{◌<◌};
 
-use libc::{STDIN_FILENO, STDOUT_FILENO};
 use modes::Sign;
 use products::{ApplyResult, Blocked};
+use readers::read_full;
+use std::io;
 
 // How many answers were compared, how many differ, and which was the first to, counted from 1.
 #[derive(Clone, Copy)]
@@ -49,17 +51,15 @@ impl Tally {
 }
 
 // What was compared, and how it came out.
-fn print_tally(title: &[u8], t: Tally) {
-    io::write_all(STDOUT_FILENO, title);
-    io::print_decimal(STDOUT_FILENO, t.compared);
-    io::write_all(STDOUT_FILENO, b" compared, ");
-    io::print_decimal(STDOUT_FILENO, t.differ);
-    io::write_all(STDOUT_FILENO, b" differ");
+fn print_tally(rt: &impl Print, title: &str, t: Tally) -> io::Result<()> {
+    let compared = t.compared;
+    let differ = t.differ;
+    print!(rt; "{title}{compared} compared, {differ} differ")?;
     if t.differ != 0 {
-        io::write_all(STDOUT_FILENO, b", the first is number ");
-        io::print_decimal(STDOUT_FILENO, t.first);
+        let first = t.first;
+        print!(rt; ", the first is number {first}")?;
     }
-    io::write_all(STDOUT_FILENO, b"\n");
+    println!(rt; "")
 }
 
 // The number that a hexadecimal digit stands for.
@@ -75,10 +75,8 @@ fn field(line: &[u8; 104], k: usize) -> u64
     requires { k < 6 }
 {
     let mut x: u64 = 0;
-    let mut i = 0;
-    while i < 16 {
+    for i in 0..16 {
         x = x % 0x1000_0000_0000_0000 * 16 + digit(line[2 + 17 * k + i]) % 16;
-        i += 1;
     }
     x
 }
@@ -108,12 +106,10 @@ fn is_blocked(cre: u64, ann: u64, ket: u64, reason: u64, mode: u64) -> bool {
 
 // Are these the words of the output: the annihilation word, the creation word and the coefficient, 1 or -1 as its bits, of each row, and zeros past them?
 fn holds(out: &[u8; 96], words: &[u64; 12]) -> bool {
-    let mut i = 0;
-    while i < 12 {
+    for i in 0..12 {
         if lent::word(out, 8 * i) != words[i] {
             return false;
         }
-        i += 1;
     }
     true
 }
@@ -194,14 +190,14 @@ fn stored_count(line: &[u8; 104]) -> bool {
 }
 
 // Reads the stored answers, at most 100,000 lines, and prints how those of each kind came out, and the lines of none.
-fn print_stored() {
+fn print_stored(rt: &(impl Input + Print)) -> io::Result<()> {
+    let mut reader = rt.reader();
     let mut applied = Tally::NONE;
     let mut counted = Tally::NONE;
     let mut unknown = Tally::NONE;
-    let mut i: usize = 0;
-    while i < 100000 {
+    for _ in 0..100000 {
         let mut line = [0u8; 104];
-        let read = io::read_full(STDIN_FILENO, &mut line);
+        let read = read_full(&mut reader, &mut line)?;
         if read == 0 {
             break;
         }
@@ -213,15 +209,14 @@ fn print_stored() {
         } else {
             unknown = unknown.with(false);
         }
-        i += 1;
     }
-    print_tally(b"apply_op_ket_u64: ", applied);
-    print_tally(b"count_before_each_set_bit: ", counted);
-    print_tally(b"lines of no known kind: ", unknown);
+    print_tally(rt, "apply_op_ket_u64: ", applied)?;
+    print_tally(rt, "count_before_each_set_bit: ", counted)?;
+    print_tally(rt, "lines of no known kind: ", unknown)
 }
 
-fn main() {
-    print_tally(b"numbered cases 1 to 8: ", numbered_products());
-    print_tally(b"numbered cases 9 to 13: ", numbered_words());
-    print_stored();
+fn main(rt: HostRuntime) -> io::Result<()> {
+    print_tally(&rt, "numbered cases 1 to 8: ", numbered_products())?;
+    print_tally(&rt, "numbered cases 9 to 13: ", numbered_words())?;
+    print_stored(&rt)
 }

@@ -1,34 +1,55 @@
 // Reads a ladder text from standard input, and writes its record on as many modes as its argument names, or the line
 // `refused N O P`. The input is at most the longest text and one byte: a longer one is refused for that byte already.
 #![tactic(auto)]
-ghost use Rattle.io.specs.Counts.{IsPrefixLen};
 
-use libc::{STDIN_FILENO, STDOUT_FILENO};
+ghost use Rattle.std.specs.Prelude.{◌≡◌, ℕ, ◌<◌, ◌≤◌, length, take, IfOk, OnErr};
+ghost use Rattle.std.specs.Io.{ReadsAtMost};
+ghost use Rattle.std.specs.Io.KnownBytes.{Consumes, IsAtEnd};
+
+use readers::read_full;
+use std::env::{Env, FillError};
+use std::io;
+use std::io::Read;
 
 // An argument of more bytes than these counts as an empty one: no mode count has more than two.
 const WORD: usize = 8;
 
+// Is there no argument after the first?
+fn is_alone(env: &impl Env) -> bool {
+    let mut second = [0u8; 1];
+    matches!(env.arg(2, &mut second), Err(FillError::NotPresent))
+}
+
 // The length of the one argument, where it fits: 0 for none and for several.
-fn argument(word: &mut [u8; WORD]) -> usize
-    ensures { IsPrefixLen result word.new }
+fn argument(env: &impl Env, word: &mut [u8; WORD]) -> usize
+    ensures within { result ≤ length word.new }
+    ensures front { result ≡ length (take result word.new) }
 {
-    let len = os::arg(1, word);
-    if os::arg_count() == 2 { len } else { 0 }
+    match env.arg(1, word) {
+        Ok(len) if is_alone(env) => len,
+        _ => 0,
+    }
 }
 
-// Standard input, as far as it counts.
-fn read_text(text: &mut [u8; text_reply::LONGEST_INPUT]) -> usize
-    ensures { IsPrefixLen result text.new }
+// Standard input, as far as it counts: to its end, or until one byte more than the longest text is read.
+fn read_text<R: Read>(
+    reader: &mut R,
+    text: &mut [u8; text_reply::LONGEST_INPUT],
+) -> io::Result<usize>
+    ensures bound { ReadsAtMost result text.new }
+    ensures bytes { IfOk result (λ n. Consumes (R.remaining reader.old) (R.remaining reader.new) (take n text.new)) }
+    ensures end { IfOk result (λ n. n < length text.new → IsAtEnd (R.remaining reader.new)) }
+    ensures err { OnErr result ((n : ℕ) × (n ≤ length text.new) × Consumes (R.remaining reader.old) (R.remaining reader.new) (take n text.new)) }
 {
-    io::read_full(STDIN_FILENO, text)
+    read_full(reader, text)
 }
 
-fn main() {
+fn main(rt: HostRuntime) -> io::Result<()> {
     let mut word = [0u8; WORD];
-    let named = argument(&mut word);
+    let named = argument(&rt, &mut word);
     let mut text = [0u8; text_reply::LONGEST_INPUT];
-    let read = read_text(&mut text);
+    let read = read_text(&mut rt.reader(), &mut text)?;
     let mut out = [0u8; text_reply::ROOM];
     let len = text_reply::import_reply(&word[..named], &text[..read], &mut out);
-    io::write_all(STDOUT_FILENO, &out[..len]);
+    rt.write_all(&out[..len])
 }
