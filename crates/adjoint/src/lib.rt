@@ -1,5 +1,6 @@
 // The adjoint of a record, and the Hermitian test.
 #![tactic(auto)]
+
 ghost use Rattle.std.specs.Prelude.{◌≡◌, map, ◌≤◌, length};
 ghost use Rattle.record.specs.Operands.{read_as};
 ghost use Rattle.modes.specs.Words.{bit};

@@ -1,5 +1,6 @@
 // How many branches the products of two records have: the rows of work that they take, told without work.
 #![tactic(auto)]
+
 ghost use Rattle.std.specs.Prelude.{◌≡◌, ◌+◌, ◌^◌, ◌≤◌};
 ghost use Rattle.std.specs.Int.Count.{ones};
 ghost use Rattle.record.specs.Operands.{read_as};

@@ -4,7 +4,7 @@ use mathlib.Core.List.{List}
 use Prim.Native.Nat.{ℕ, ◌+◌, ◌*◌, ◌≤◌}
 use native.Mathlib.Nat.{zero-add}
 use native.Mathlib.Omega.{arith}
-use lib.IntN.{ℤ, pos, nat_abs}
+use lib.IntN.{ℤ, pos, nat_abs, ◌+ℤ◌}
 use lib.ListN.{length}
 use Rattle.modes.specs.declared.Term.{Term}
 use Rattle.modes.proofs.Sums.{sum_through}
@@ -28,7 +28,7 @@ use Rattle.collect.proofs.Closing.{same_from}
 -- the weight as a sum of whole numbers
 weight_sum : (cre ann : ℕ) (ts : List Term) → pos (key_weight cre ann ts) ≡ sum_of (λ t. pos (nat_abs (coeff_in cre ann t))) ts
 unfolding sum_of key_weight
-weight_sum cre ann = sum_through {h = pos} (record { none = refl; add = λ x y. refl }) (λ t. nat_abs (coeff_in cre ann t))
+weight_sum cre ann = sum_through {op = ◌+◌} {to = ◌+ℤ◌} {h = pos} (record { none = refl; add = λ x y. refl }) (λ t. nat_abs (coeff_in cre ann t))
 
 -- rows at the front are places
 pub front_apart : (places : Places) (n size : ℕ) → places ≡ row_places 0 → 24 * n ≤ size → Apart places n size

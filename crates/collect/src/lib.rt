@@ -1,5 +1,6 @@
 // Rows of 24 bytes in lent memory collected: sorted, like rows joined, zeros dropped.
 #![tactic(auto)]
+
 ghost use Rattle.std.specs.Prelude.{◌≡◌, ◌+◌, ◌*◌, ◌≤◌, ◌<◌, ◌^◌, nat_abs, length};
 ghost use Rattle.lent.specs.Rows.{Fit, row_at, rows_at};
 ghost use Rattle.collect.specs.KeyWeights.{Light};

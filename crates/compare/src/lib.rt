@@ -1,5 +1,6 @@
 // The comparison of two records.
 #![tactic(auto)]
+
 ghost use Rattle.std.specs.Prelude.{◌≡◌, true};
 ghost use Rattle.record.specs.Operands.{read_as};
 ghost use Rattle.normal.specs.Normal.{drop_zeros};

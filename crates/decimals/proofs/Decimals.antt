@@ -16,6 +16,8 @@ use Rattle.decimals.proofs.Stores.{stored_one, stored_join}
 -- where there are enough, it does not matter how many more
 enough : (j k n : ℕ) → n < j → n < k → digits j n ≡ digits k n
 unfolding digits
+enough zero k n h g = elim h [ ]
+enough (suc j) zero n h g = elim g [ ]
 enough (suc j) (suc k) n h g =
     ⊎_elim (λ small. rw (lt-ltb n 10 small)) (λ big. rw (le-ltb n 10 big, enough j k (n / 10) (omega arith) (omega arith))) (lt_or_ge n 10)
 

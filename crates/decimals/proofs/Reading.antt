@@ -2,7 +2,7 @@
 use mathlib.Core.Path.{◌≡◌, refl, sym, ap, ◌∙◌}
 use mathlib.Core.List.{List, [], ◌∷◌, ◌++◌, append_assoc}
 use mathlib.Core.Logic.{⊎_elim}
-use Prim.Native.Nat.{ℕ, zero, suc, ◌+◌, ◌*◌, ◌-◌, ◌/◌, ◌%◌, ◌≤◌, ◌<◌}
+use Prim.Native.Nat.{ℕ, zero, suc, ◌+◌, ◌*◌, ◌-◌, ◌/◌, ◌%◌, ◌<◌}
 use native.Mathlib.Omega.{arith}
 use borrow.Author.Tests.{lt-ltb, le-ltb}
 use Rattle.modes.proofs.Digits.{lt_or_ge}
@@ -17,6 +17,7 @@ read_append n (x ∷ xs) ys = read_append (10 * n + (x - 48)) xs ys
 
 digits_read : (k n : ℕ) → n < k → read_on 0 (digits k n) ≡ n
 unfolding digits read_on
+digits_read zero n h = elim h [ ]
 digits_read (suc k) n h =
     ⊎_elim (λ small. rw (lt-ltb n 10 small) (omega arith))
     (λ big. rw (le-ltb n 10 big, read_append 0 (digits k (n / 10)) ((48 + n % 10) ∷ []), digits_read k (n / 10) (omega arith)) (omega arith))

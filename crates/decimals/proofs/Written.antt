@@ -1,6 +1,6 @@
 -- The digits of a number are a number of a text: digits from 0 to 9, and no zero in front of others.
 use mathlib.Core.Path.{◌≡◌, refl, sym, ap, ◌∙◌}
-use mathlib.Core.Bool.{true, or-true, not, ◌&&◌, ◌||◌, true≢false}
+use mathlib.Core.Bool.{true, or-true, not, ◌||◌, true≢false}
 use mathlib.Core.List.{List, [], ◌∷◌, ◌++◌, append-nil, append_assoc}
 use mathlib.Core.Logic.{⊎_elim}
 use Prim.Native.Nat.{ℕ, zero, suc, ◌+◌, ◌-◌, ◌*◌, ◌/◌, ◌%◌, ◌≤◌, ◌<◌}
@@ -51,6 +51,7 @@ longer l d h = record { first = h.first; later = h.later ++ (d ∷ []); is = rw 
 
 leads : (k n : ℕ) → n < k → 1 ≤ n → Leads (digits k n)
 unfolding digits
+leads zero n h some = elim h [ ]
 leads (suc k) n h some =
     ⊎_elim (λ small. rw (lt-ltb n 10 small) (record { first = 48 + n % 10; later = []; is = refl; nonzero = λ e. absurd (omega arith) }))
     (λ big. rw (le-ltb n 10 big) (longer (digits k (n / 10)) (48 + n % 10) (leads k (n / 10) (omega arith) (omega arith))))

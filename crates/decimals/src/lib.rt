@@ -1,5 +1,6 @@
 // Numbers in decimal, as ASCII, in lent bytes.
 #![tactic(auto)]
+
 ghost use Rattle.std.specs.Prelude.{◌≡◌, ◌&&◌, [], ◌∷◌, ◌+◌, ◌-◌, ◌*◌, ◌≤◌, ◌<◌, ◌^◌, length};
 ghost use Rattle.decimals.specs.Decimal.{decimal, field};
 ghost use Rattle.decimals.specs.Numbers.{is_digit, starts_well};

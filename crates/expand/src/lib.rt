@@ -1,5 +1,6 @@
 // A line multiplied out: its rows in lent work.
 #![tactic(auto)]
+
 ghost use Rattle.std.specs.Prelude.{◌≡◌, ◌^◌, ◌≤◌, ◌<◌, nat_abs, length, take};
 ghost use Rattle.lines.specs.Grammar.{coefficient_of, line_of};
 ghost use Rattle.expand.specs.Rows.{rows_after, plain, rows_of};

@@ -1,5 +1,6 @@
 // The C face: each function fills its answer whole, on every way out, as include/fermion.h says.
 #![tactic(auto)]
+
 ghost use Rattle.std.specs.Prelude.{◌≡◌, cond, [], ◌∷◌, length};
 ghost use Rattle.record.specs.Operands.{read_as};
 ghost use Rattle.products.specs.Apply.{applied};

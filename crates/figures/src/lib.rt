@@ -1,5 +1,6 @@
 // What the terms of a record have in common: particle conservation, the largest rank, the active modes.
 #![tactic(auto)]
+
 ghost use Rattle.std.specs.Prelude.{◌≡◌, ◌≤◌, max};
 ghost use Rattle.record.specs.Layout.{terms_in};
 ghost use Rattle.record.specs.Reading.{Holds};

@@ -1,5 +1,6 @@
 // Elements of a list of terms with float coefficients, real or complex, between occupation words.
 #![tactic(auto)]
+
 ghost use Rattle.std.specs.Prelude.{◌≡◌, [], ◌∷◌, length};
 ghost use Rattle.std.specs.Float.Ieee.Scale.{finite};
 ghost use Rattle.modes.specs.Refusals.{first_refusal};

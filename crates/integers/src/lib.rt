@@ -1,5 +1,6 @@
 // Signed numbers of 64 bits: their bits, their magnitude, and sums and products that do not wrap.
 #![tactic(auto)]
+
 ghost use Rattle.std.specs.Prelude.{◌≡◌, ◌+◌, ◌*◌, ◌≤◌, ◌<◌, ◌^◌, neg_ℤ, nat_abs, ◌+ℤ◌, ◌*ℤ◌};
 ghost use Rattle.std.specs.Int.Signed.{mag};
 ghost use Rattle.std.specs.Int.{w64};

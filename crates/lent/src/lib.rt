@@ -1,5 +1,6 @@
 // Little-endian words and rows in lent bytes, copying and wiping.
 #![tactic(auto)]
+
 ghost use Rattle.std.specs.Prelude.{◌≡◌, ◌++◌, ◌+◌, ◌-◌, ◌≤◌, ◌<◌, ◌^◌, length, take};
 ghost use Rattle.lent.specs.Bytes.{half_at, word_at, put_half, put_word, zeros, put};
 ghost use Rattle.lent.specs.Rows.{Fit, row_at, put_row};

@@ -8,7 +8,6 @@ use native.Mathlib.Omega.{arith}
 use lib.IntN.{nat_abs}
 use lib.ListN.{drop}
 use Rattle.modes.specs.declared.Term.{Term}
-use Rattle.modes.specs.Every.{none}
 use Rattle.record.specs.Terms.{before}
 use Rattle.record.specs.Layout.{terms_in}
 use Rattle.record.specs.Reading.{Sound, At}

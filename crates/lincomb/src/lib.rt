@@ -1,5 +1,6 @@
 // The sum and the difference of two records.
 #![tactic(auto)]
+
 ghost use Rattle.std.specs.Prelude.{◌≡◌, cond, ◌+◌, ◌≤◌, ◌<◌, ◌^◌, eqb, nat_abs, length};
 ghost use Rattle.record.specs.Operands.{read_as};
 ghost use Rattle.lent.specs.Outputs.{Gives, filled_output};
@@ -40,7 +41,7 @@ pub fn turned(sign: Sign, t: Term) -> Term
 // The next term of two records, the second with its sign.
 pub fn next(sign: Sign, a: &[u8], na: usize, i: usize, b: &[u8], nb: usize, j: usize) -> Step
     requires sound { Sound a.now na × Sound b.now nb }
-    requires i_le_na { (i ≤ na) × (j ≤ nb) × (i + j < na + nb) }
+    requires inside { (i ≤ na) × (j ≤ nb) × (i + j < na + nb) }
     ensures { Pulled sign.0 a.now na i b.now nb j result }
 {
     if nb <= j {
@@ -128,7 +129,7 @@ fn write_sum(
     n: usize,
 ) -> Written
     requires sound { Sound a.now na × Sound b.now nb }
-    requires n_value { (n ≡ length (drop_zeros (onward sign.0 a.now na b.now nb 0 0))) × Holds out.old n × (n ≤ 2048) }
+    requires fits { (n ≡ length (drop_zeros (onward sign.0 a.now na b.now nb 0 0))) × Holds out.old n × (n ≤ 2048) }
     ensures { Gives (filled_output (length out.old) 0 (encode m (drop_zeros (onward sign.0 a.now na b.now nb 0 0)))) result out.new }
 {
     let mut i = 0;

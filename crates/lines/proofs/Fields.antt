@@ -1,30 +1,29 @@
 -- What is read of the fields of a line, one after the other.
 use mathlib.Core.Path.{◌≡◌, refl, sym, ap, ap₂, ◌∙◌}
-use mathlib.Core.Bool.{Bool, true, false, cond, ◌&&◌, ◌||◌, and-true, and_assoc}
+use mathlib.Core.Bool.{Bool, true, false, ◌&&◌, ◌||◌, and-true, and_assoc}
 use mathlib.Core.List.{List, [], ◌∷◌, map}
-use Prim.Native.Nat.{ℕ, suc, ◌+◌, ◌-◌, ◌^◌, ◌≤◌, ◌<◌}
+use Prim.Native.Nat.{ℕ, ◌+◌, ◌-◌, ◌≤◌}
 use native.Mathlib.Omega.{arith}
 use lib.Dec.{eqb, ltb}
-use lib.IntN.{nat_abs, pos}
-use lib.ListN.{length, get_or, take, drop, length-drop, length-map}
+use lib.IntN.{pos}
+use lib.ListN.{length, take, drop, length-drop, length-map}
 use lib.Seq.{take_all}
 use borrow.Author.Tests.{eqb-true, lt-ltb, le-ltb}
 use Rattle.modes.proofs.Digits.{lt_or_ge}
 use mathlib.Core.Logic.{⊎_elim}
 use Rattle.products.proofs.Signs.{abs_signed}
 use Rattle.decimals.specs.Decimal.{read_on}
-use Rattle.decimals.specs.Numbers.{is_number, starts_well, all_digits}
+use Rattle.decimals.specs.Numbers.{starts_well}
 use Rattle.decimals.specs.Ceiling.{up_to, number_in}
 use Rattle.decimals.specs.declared.Number.{Number}
 use Rattle.lines.specs.Grammar.{space, creates, annihilates, pieces, kind_of, is_ladder, ladder_of, all_ladders, is_minus, magnitude_of, coefficient_of}
-use Rattle.lines.specs.Grammar.{is_line_of, line_from, is_line, line_of}
+use Rattle.lines.specs.Grammar.{is_line_of, line_from}
 use Rattle.lines.specs.Refusals.{all_below}
-use Rattle.lines.specs.Reading.{rest, ladder_read, coefficient_read, ladders_read, line_read}
+use Rattle.lines.specs.Reading.{ladder_read, coefficient_read, ladders_read, line_read}
 use Rattle.lines.specs.declared.ReadLadder.{ReadLadder}
 use Rattle.lines.specs.declared.ReadLadders.{ReadLadders}
 use Rattle.lines.specs.declared.ReadCoefficient.{ReadCoefficient}
 use Rattle.lines.specs.declared.ReadLine.{ReadLine}
-use Rattle.lines.proofs.Pieces.{pieces_from_is, rest_next, rest_none}
 
 -- ---- a ladder
 

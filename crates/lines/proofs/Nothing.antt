@@ -1,12 +1,12 @@
 -- Nothing else is a line: whatever the grammar takes for one is a line as it is written, after a minus or none.
 use mathlib.Core.Path.{◌≡◌, refl, sym, ap, ap₂, ◌∙◌}
-use mathlib.Core.Bool.{Bool, true, false, cond, ◌&&◌, ◌||◌, true≢false}
+use mathlib.Core.Bool.{Bool, true, false, cond, ◌||◌, true≢false}
 use mathlib.Core.List.{List, [], ◌∷◌, ◌++◌, map, append_assoc}
-use Prim.Native.Nat.{ℕ, suc, ◌-◌, ◌≤◌, ◌<◌}
+use Prim.Native.Nat.{ℕ, suc, ◌-◌, ◌≤◌}
 use native.Mathlib.Omega.{arith}
 use lib.Dec.{eqb}
 use lib.IntN.{pos, nat_abs}
-use lib.ListN.{length, get_or, take, drop}
+use lib.ListN.{length, take, drop}
 use lib.Seq.{take-suc, take-length}
 use borrow.Author.Tests.{eqb-true}
 use Rattle.modes.specs.Sums.{sum_by, list_of}
@@ -15,9 +15,9 @@ use Rattle.products.proofs.Signs.{abs_signed}
 use Rattle.decimals.specs.Decimal.{decimal, read_on}
 use Rattle.decimals.specs.Numbers.{is_number, starts_well}
 use Rattle.decimals.proofs.Written.{number_written}
-use Rattle.lines.specs.Grammar.{space, minus, creates, annihilates, onto, pieces, Ladder, Line, kind_of, mode_of, is_ladder, ladder_of, all_ladders}
+use Rattle.lines.specs.Grammar.{space, minus, creates, annihilates, onto, pieces, kind_of, mode_of, is_ladder, ladder_of, all_ladders}
 use Rattle.lines.specs.Grammar.{is_minus, magnitude_of, coefficient_of, is_line_of, line_from, is_line, line_of}
-use Rattle.lines.specs.Spelling.{kind_byte, ladder_text, ladders_text, plain_text, Spelled}
+use Rattle.lines.specs.Spelling.{kind_byte, ladder_text, ladders_text, Spelled}
 use Rattle.lines.proofs.Pieces.{pieces_front}
 use Rattle.lines.proofs.Fields.{minus_first}
 

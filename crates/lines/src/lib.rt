@@ -1,5 +1,6 @@
 // The grammar of ladder text: pieces of a text, and a line read.
 #![tactic(auto)]
+
 ghost use Rattle.std.specs.Prelude.{◌≡◌, ◌&&◌, ◌||◌, ◌+◌, ◌≤◌, ◌<◌, ◌^◌, eqb, ltb, length, drop};
 ghost use Rattle.lines.specs.Grammar.{space, creates, annihilates, is_minus};
 ghost use Rattle.lines.specs.Reading.{front, rest, ladder_read, coefficient_read, ladders_read, line_read};

@@ -1,5 +1,6 @@
 // Signs, mode spaces, terms and refusals: the values that every other crate is made of.
 #![tactic(auto)]
+
 ghost use Rattle.std.specs.Prelude.{◌≡◌, true, false, ◌^◌, ◌≤◌, ltb};
 ghost use Rattle.modes.specs.Bools.{◌⊕◌};
 ghost use Rattle.modes.specs.Words.{bit, lowest_mode};

@@ -7,7 +7,7 @@ use lib.IntN.{ℤ, pos, ◌+ℤ◌, ◌*ℤ◌, *ℤ_comm}
 use Rattle.modes.specs.Sums.{sum_of}
 use Rattle.modes.specs.declared.Term.{Term}
 use Rattle.modes.proofs.Sums.{sum_append, Respects, sum_through, whole_numbers, by_both_orders, sum_respects}
-use Rattle.modes.specs.Every.{Every, none}
+use Rattle.modes.specs.Every.{Every}
 use Rattle.modes.proofs.Every.{every_implies, sum_same}
 use Rattle.products.specs.PhaseRule.{went, term}
 use Rattle.products.specs.Operators.{signed, adds, part, element}

@@ -1,5 +1,6 @@
 // The product, the commutator and the anticommutator of two records.
 #![tactic(auto)]
+
 ghost use Rattle.std.specs.Prelude.{◌≡◌, length};
 ghost use Rattle.record.specs.Operands.{read_as};
 ghost use Rattle.lent.specs.Bytes.{zeros};

@@ -1,5 +1,6 @@
 // The normal form of a list of terms: like terms joined, zeros dropped, in ascending order.
 #![tactic(auto)]
+
 ghost use Rattle.std.specs.Prelude.{◌≡◌, ◌+◌, ◌<◌, ◌^◌, nat_abs};
 ghost use Rattle.normal.specs.Normal.{join};
 

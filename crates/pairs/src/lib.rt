@@ -1,5 +1,6 @@
 // The rows of all pairs of terms of two records, gathered at the front of lent work.
 #![tactic(auto)]
+
 ghost use Rattle.std.specs.Prelude.{◌≡◌, true, ◌++◌, ◌+◌, ◌*◌, ◌≤◌, ◌<◌, ◌^◌, nat_abs, length};
 ghost use Rattle.lent.specs.Rows.{Fit};
 ghost use Rattle.products.specs.Product.{rows_times};

@@ -1,5 +1,6 @@
 // One term on one occupation word, and the rows of one product, by the phase rule.
 #![tactic(auto)]
+
 ghost use Rattle.std.specs.Prelude.{◌≡◌, not, ℕ, ◌+◌, ◌-◌, ◌*◌, ◌≤◌, ◌<◌, ◌^◌, leb, nat_abs, length};
 ghost use Rattle.std.specs.Int.Count.{ones};
 ghost use Rattle.modes.specs.Words.{bit};

@@ -1,5 +1,6 @@
 // The record: its check, the reading and writing of its terms, and the stretch of one annihilation word.
 #![tactic(auto)]
+
 ghost use Rattle.std.specs.Prelude.{◌≡◌, true, false, ◌||◌, ◌+◌, ◌*◌, ◌-◌, ◌≤◌, ◌<◌, ◌^◌, nat_abs, length, set};
 ghost use Rattle.lent.specs.Bytes.{put};
 ghost use Rattle.modes.specs.Answers.{refusal};

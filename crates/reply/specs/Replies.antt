@@ -1,5 +1,5 @@
 -- What an input that holds two records, one after the other, is answered with: the record of their commutator, or the line of its refusal.
-use Rattle.std.specs.Prelude.{◌≡◌, Bool, cond, ◌&&◌, List, ◌++◌, ℕ, ◌+◌, ◌*◌, ◌-◌, eqb, leb, length, take, drop}
+use Rattle.std.specs.Prelude.{◌≡◌, Bool, cond, ◌&&◌, List, ◌++◌, ℕ, ◌*◌, ◌-◌, eqb, leb, length, take, drop}
 use Rattle.record.specs.Operands.{read_as}
 use Rattle.modes.specs.Answers.{refusal}
 use Rattle.lent.specs.Bytes.{zeros}

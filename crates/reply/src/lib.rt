@@ -1,6 +1,7 @@
 // Two records in one input, one after the other, answered with the record of their commutator or with the line
 // `refused N O P`: all that the program `commutator` decides.
 #![tactic(auto)]
+
 ghost use Rattle.std.specs.Prelude.{◌≡◌, ◌≤◌, length};
 ghost use Rattle.modes.specs.Answers.{refusal};
 ghost use Rattle.lent.specs.Outputs.{refused_output};

@@ -16,7 +16,7 @@ use Rattle.record.specs.Layout.{terms_of, count_of}
 use Rattle.record.specs.Operands.{Operand, read_as}
 use Rattle.record.specs.Refusals.{refusal_of}
 use Rattle.record.specs.declared.Checked.{Checked}
-use Rattle.record.proofs.Accepted.{Accepted, accepted, refused}
+use Rattle.record.proofs.Accepted.{Accepted, accepted}
 use Rattle.record.proofs.Reading.{length_terms}
 use Rattle.report.specs.Reports.{report_in, numbers_of, is_open, with_accepted, with_refused}
 use Rattle.report.specs.Reports.{with_record, report_after, counted_of, Counts}

@@ -1,5 +1,6 @@
 // A report over records: how many were accepted and refused, and their terms and weights, in all and for each rank.
 #![tactic(auto)]
+
 ghost use Rattle.std.specs.Prelude.{◌≡◌, true, ◌+◌, ◌≤◌, ◌<◌, ◌^◌, length};
 ghost use Rattle.record.specs.Operands.{read_as};
 ghost use Rattle.report.specs.Reports.{share_in, report_in, within, all_within, is_open, Counts};

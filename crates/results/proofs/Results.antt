@@ -10,7 +10,7 @@ use borrow.Author.Tests.{eq-eqb, ne_eqb, le-leb, lt-leb, eqb-true}
 use Rattle.record.specs.Operands.{read_as}
 use Rattle.modes.specs.declared.Term.{Term}
 use Rattle.modes.specs.declared.Refusal.{Refusal}
-use Rattle.modes.specs.Answers.{refusal, none, modes_differ, too_many_terms, result_too_heavy, output_too_short}
+use Rattle.modes.specs.Answers.{none, modes_differ, too_many_terms, result_too_heavy, output_too_short}
 use Rattle.modes.proofs.Digits.{lt_or_ge}
 use Rattle.modes.specs.Every.{Every}
 use Rattle.record.specs.Terms.{weight}

@@ -1,5 +1,6 @@
 // Calls that write a record: two operands opened, what refuses a result, and rows delivered as a record.
 #![tactic(auto)]
+
 ghost use Rattle.std.specs.Prelude.{◌≡◌, ◌*◌, ◌≤◌, ◌<◌, length};
 ghost use Rattle.modes.specs.Answers.{none};
 ghost use Rattle.lent.specs.Rows.{rows_at};

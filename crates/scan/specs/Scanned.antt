@@ -8,7 +8,6 @@ use Rattle.decimals.specs.Ceiling.{up_to}
 use Rattle.lines.specs.Grammar.{lines_of}
 use Rattle.lines.specs.Refusals.{text_refusal}
 use Rattle.scan.specs.Sums.{spread, burden}
-use Rattle.scan.specs.declared.Sums.{Sums}
 use Rattle.scan.specs.declared.Scanned.{Scanned}
 
 abbrev pub refused_text : Refusal → Scanned

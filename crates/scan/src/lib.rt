@@ -1,5 +1,6 @@
 // A text looked through line by line: its first refusal, or the two sums over its lines.
 #![tactic(auto)]
+
 ghost use Rattle.std.specs.Prelude.{◌≡◌, ◌+◌, ◌*◌, ◌≤◌, ◌<◌, ◌^◌, leb};
 ghost use Rattle.modes.specs.Answers.{refusal};
 ghost use Rattle.modes.specs.Refusals.{need, or_else};

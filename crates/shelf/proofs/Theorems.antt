@@ -6,7 +6,6 @@ use Prim.Native.Nat.{ℕ, zero, suc, ◌≤◌, ◌<◌}
 use native.Mathlib.Omega.{arith}
 use lib.ListN.{length}
 use Rattle.modes.specs.declared.Refusal.{Refusal}
-use Rattle.modes.specs.Answers.{none}
 use Rattle.modes.specs.Every.{Every, none as nothing, more}
 use Rattle.modes.proofs.Refusals.{by_number}
 use Rattle.lent.specs.Bytes.{zeros}

@@ -1,5 +1,6 @@
 // One shelf for two parties: records put, got and dropped, each party in its own half, and the shelf cleared.
 #![tactic(auto)]
+
 ghost use Rattle.std.specs.Prelude.{◌≡◌, [], length};
 ghost use Rattle.shelf.specs.Requests.{Put, Get, Drop, unchanged, refused_shelved, slot_refusal, on_half, Leaves};
 ghost use Rattle.shelf.specs.Placing.{reach_of, Placeable};

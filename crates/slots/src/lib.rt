@@ -1,5 +1,6 @@
 // One party's half of a shelf: the entries of its 16 slots, whether it is damaged, and where it has room.
 #![tactic(auto)]
+
 ghost use Rattle.std.specs.Prelude.{◌≡◌, true, ◌||◌, ◌+◌, ◌*◌, ◌≤◌, ◌<◌, ◌^◌, eqb, length};
 ghost use Rattle.lent.specs.Bytes.{num_at};
 ghost use Rattle.slots.specs.Half.{place_of, length_of, is_free, is_sound, apart, meets_none, is_whole, free_slot, gap_for, holding, without};

@@ -1,6 +1,7 @@
 // The check of a record, and in the same walk how many of its terms have each rank, and their weight. The walk ends where the check
 // ends. What refuses the record is told behind the loop, from the place alone, which leaves the compiler registers for the terms.
 #![tactic(auto)]
+
 ghost use Rattle.std.specs.Prelude.{◌≡◌, ◌+◌, ◌^◌, ◌<◌, ◌≤◌, true};
 ghost use Rattle.record.specs.Layout.{laid_out, modes_of, count_of, terms_in};
 ghost use Rattle.record.specs.Reading.{Holds};

@@ -1,5 +1,5 @@
 -- Terms as text, one line a term: the coefficient, the creations, then the annihilations, each ascending and each after a space.
-use Rattle.std.specs.Prelude.{Bool, true, false, cond, List, [], ◌∷◌, ◌++◌, ℕ, zero, suc, ℤ, pos, negsuc, nat_abs}
+use Rattle.std.specs.Prelude.{cond, List, [], ◌∷◌, ◌++◌, ℕ, zero, suc, ℤ, pos, negsuc, nat_abs}
 use Rattle.modes.specs.Words.{bit}
 use Rattle.modes.specs.Sums.{list_of}
 use Rattle.modes.specs.declared.Term.{Term}

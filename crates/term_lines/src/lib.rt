@@ -1,5 +1,6 @@
 // A term as a line of text.
 #![tactic(auto)]
+
 ghost use Rattle.std.specs.Prelude.{◌+◌, ◌≤◌, ◌<◌, length};
 ghost use Rattle.decimals.specs.Stores.{Stored};
 ghost use Rattle.term_lines.specs.Written.{sign_text, modes_text, term_text};

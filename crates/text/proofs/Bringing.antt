@@ -3,7 +3,7 @@ use mathlib.Core.Path.{◌≡◌, refl, sym, ap, ◌∙◌}
 use mathlib.Core.Bool.{Bool, true, false, cond, ◌&&◌}
 use mathlib.Core.List.{List, [], ◌∷◌}
 use mathlib.Core.Logic.{⊎_elim}
-use Prim.Native.Nat.{ℕ, ◌+◌, ◌*◌, ◌/◌, ◌^◌, ◌≤◌, ◌<◌}
+use Prim.Native.Nat.{ℕ, ◌*◌, ◌/◌, ◌^◌, ◌≤◌, ◌<◌}
 use native.Mathlib.Nat.{mul-div_cancel_left, le_refl}
 use native.Mathlib.Omega.{arith}
 use lib.Dec.{eqb, leb, lit<}
@@ -17,7 +17,7 @@ use Rattle.modes.specs.Sums.{sum_by, amount_of}
 use Rattle.modes.proofs.Refusals.{neither, or_second}
 use Rattle.modes.proofs.Digits.{lt_or_ge}
 use Rattle.lent.specs.Rows.{rows_at}
-use Rattle.lent.specs.Outputs.{Output, refused_output}
+use Rattle.lent.specs.Outputs.{refused_output}
 use Rattle.decimals.specs.Ceiling.{up_to}
 use Rattle.record.specs.Terms.{weight}
 use Rattle.record.specs.Coefficients.{coeff_in}
@@ -32,7 +32,7 @@ use Rattle.lines.specs.Refusals.{text_refusal}
 use Rattle.lines.proofs.Fine.{lines_wider}
 use Rattle.expand.proofs.Sizes.{lines_number, lines_weight}
 use Rattle.scan.specs.Sums.{spread, burden}
-use Rattle.text.specs.Import.{sums_refusal, early_refusal, import_of}
+use Rattle.text.specs.Import.{early_refusal, import_of}
 use Rattle.text.specs.Gathering.{Readable, text_rows, Gathered}
 use Rattle.text.proofs.Refusing.{bad_modes, modes_range, modes_refused, too_many_modes}
 

@@ -18,11 +18,10 @@ use Rattle.modes.proofs.Digits.{lt_or_ge}
 use Rattle.modes.proofs.Refusals.{needed, the_first, the_second, or_second, either_way, not_refused}
 use Rattle.record.proofs.Header.{made}
 use Rattle.decimals.specs.Ceiling.{up_to}
-use Rattle.lines.specs.Grammar.{Line, lines_of}
+use Rattle.lines.specs.Grammar.{lines_of}
 use Rattle.lines.specs.Refusals.{text_refusal}
 use Rattle.scan.specs.Sums.{spread, burden}
 use Rattle.scan.specs.Scanned.{refused_text, summed_text, scanned_of}
-use Rattle.scan.specs.declared.Sums.{Sums}
 use Rattle.scan.specs.declared.Scanned.{Scanned}
 use Rattle.text.specs.Import.{sums_refusal, early_refusal}
 

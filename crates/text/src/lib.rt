@@ -1,5 +1,6 @@
 // Ladder text in and out: a text as a record, and a record as a text.
 #![tactic(auto)]
+
 ghost use Rattle.std.specs.Prelude.{◌≡◌, ◌*◌, ◌≤◌, ◌<◌, ◌^◌, leb, length};
 ghost use Rattle.modes.specs.Answers.{refusal, rows_do_not_fit, product_too_heavy};
 ghost use Rattle.modes.specs.Refusals.{need, or_else};

@@ -1,6 +1,7 @@
 // Ladder text in and out, answered with the record or the text itself, or with the line `refused N O P`: all that the
 // programs `import_text` and `export_text` decide.
 #![tactic(auto)]
+
 ghost use Rattle.std.specs.Prelude.{◌≡◌, length};
 ghost use Rattle.decimals.specs.Ceiling.{up_to};
 ghost use Rattle.multiply.specs.Answers.{Leaves};

@@ -1,0 +1,30 @@
+-- `branches::of_all` meets its contract: what is counted, with what is left, makes the whole.
+use Prim.Native.Nat.{◌+◌}
+use native.Mathlib.Omega.{arith}
+use Rattle.modes.specs.declared.Term.{Term}
+use Rattle.modes.proofs.Sums.{by_front, by_nothing}
+use Rattle.record.specs.Layout.{terms_in}
+use Rattle.record.proofs.Reading.{none_left}
+use Rattle.pairs.specs.Products.{branches_with}
+use Rattle.branches.proofs.Ceiling.{counts_start, counted, all_counted, up_small}
+use borrow.Author.Rules.{rules}
+use Rattle.branches.proofs.of_all.Goals as goal
+
+pub loop-i-init : goal.loop-i-init
+loop-i-init c = (search rules, counts_start _)
+
+pub more-so_far-requires : goal.more-so_far-requires
+more-so_far-requires c = (c.loop-i.invariant.1.small, rw c.of_term.ensures (up_small _))
+
+pub loop-i-preserved : goal.loop-i-preserved
+loop-i-preserved c =
+    let s = c.args in
+    let v = c.loop-i in
+    let next = by_front ◌+◌ 0 (λ (t : Term). branches_with t (terms_in s.b.now s.nb)) c.read_term-t.ensures in
+    (search rules, counted _ _ v.invariant.1 next c.of_term.ensures c.more-so_far.ensures)
+
+pub returns : goal.returns
+returns c =
+    let s = c.args in
+    let v = c.loop-i in
+    all_counted v.invariant.1 (by_nothing ◌+◌ 0 (λ (t : Term). branches_with t (terms_in s.b.now s.nb)) (none_left s.a.now s.na v.i (omega arith)))

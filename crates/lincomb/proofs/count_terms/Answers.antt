@@ -1,0 +1,42 @@
+-- `lincomb::count_terms` meets its contract. The invariant: what is counted, with what is left, makes the whole.
+use borrow.Author.Rules.{rules}
+use mathlib.Core.List.{List}
+use native.Mathlib.Omega.{arith}
+use Rattle.modes.specs.declared.Term.{Term}
+use Rattle.lincomb.specs.Merging.{onward}
+use Rattle.lincomb.proofs.Stepping.{spent}
+use Rattle.lincomb.proofs.Tallying.{light_together, tally_starts, tally_goes, tally_light, tally_ends}
+use Rattle.lincomb.proofs.count_terms.Goals as goal
+
+pub loop-i-init : goal.loop-i-init
+loop-i-init c = (search rules, search rules, search rules, tally_starts _)
+
+pub next-s-requires : goal.next-s-requires
+next-s-requires c = record { sound = c.requires; inside = search rules }
+
+pub overflow_add-n : goal.overflow_add-n
+overflow_add-n c = omega (arith, c.kept-n.ensures.1, c.loop-i.invariant)
+
+pub overflow_add-w : goal.overflow_add-w
+overflow_add-w c =
+    let rest : List Term =
+    let a = c.args in
+    onward a.sign.0 a.a.now a.na a.b.now a.nb c.next-s.result.left c.next-s.result.right in
+    let light = light_together c.args.sign.0 _ _ _ _ c.requires.0 c.requires.1 in
+    omega (arith, light, tally_light _ _ rest _ _ c.loop-i.invariant.3 _ c.next-s.ensures.front, c.size-k.ensures.0)
+
+pub loop-i-preserved : goal.loop-i-preserved
+loop-i-preserved c =
+    let rest : List Term =
+    let a = c.args in
+    onward a.sign.0 a.a.now a.na a.b.now a.nb c.next-s.result.left c.next-s.result.right in
+    let s = c.next-s.ensures in
+    let v = c.loop-i.invariant in (
+      s.left_in,
+      s.right_in,
+      omega (arith, c.kept-n.ensures.1, v.2, s.on),
+      tally_goes _ _ rest _ _ v.3 _ s.front _ _ c.size-k.ensures.0 c.kept-n.ensures.0,
+    )
+
+pub returns : goal.returns
+returns c = let v = c.loop-i.invariant in tally_ends _ _ _ _ v.3 (spent c.args.sign.0 _ _ _ _ _ _ v.0 v.1 (omega arith))

@@ -1,0 +1,71 @@
+-- `lincomb::next` meets its contract: one record is spent, or one term stands before the other, or they are alike.
+use mathlib.Core.Path.{◌≡◌, sym, ap, ◌∙◌}
+use mathlib.Core.Bool.{false}
+use native.Mathlib.Omega.{arith}
+use Rattle.record.specs.Terms.{before}
+use Rattle.normal.specs.Normal.{join}
+use Rattle.lincomb.proofs.Stepping.{Heads, only_left, only_right, next_right, step_less, step_greater, step_level, small_read, small_turned}
+use Rattle.lincomb.proofs.next.Goals as goal
+
+pub returns-then-nb-j : goal.returns-then-nb-j
+returns-then-nb-j c = only_left c.args.sign.0 _ _ _ _ _ _ _ (omega arith) c.if-nb-j.true (omega arith) c.read_term-t.ensures
+
+pub turned-u-requires : goal.turned-u-requires
+turned-u-requires c =
+    omega (arith, small_read _ _ c.args.j _ c.requires.sound.1 c.read_term.ensures)
+
+pub returns-then-na-i : goal.returns-then-na-i
+returns-then-na-i c =
+    only_right c.args.sign.0 _ _ _ _ _ _ _ c.if-nb-j.false
+    (next_right c.args.sign.0 c.args.b.now c.args.nb c.args.j _ _ c.read_term.ensures c.turned-u.ensures)
+    c.if-na-i.true (omega arith)
+
+pub returns-then-is_before : goal.returns-then-is_before
+returns-then-is_before c =
+    let heads : Heads c.args.sign.0 c.args.a.now c.args.na c.args.i c.args.b.now c.args.nb c.args.j c.read_term-t-2.result c.read_term-v.result =
+    record {
+      left_there = omega (arith, c.if-na-i.false);
+      right_there = omega (arith, c.if-nb-j.false);
+      left = c.read_term-t-2.ensures;
+      right = c.read_term-v.ensures;
+    } in
+    step_less _ _ _ _ _ _ _ heads (sym c.is_before.ensures ∙ c.if-is_before.true)
+
+pub turned-u-requires-2 : goal.turned-u-requires-2
+turned-u-requires-2 c =
+    omega (arith, small_read _ _ c.args.j _ c.requires.sound.1 c.read_term-v.ensures)
+
+pub returns-then-is_before-2 : goal.returns-then-is_before-2
+returns-then-is_before-2 c =
+    let heads : Heads c.args.sign.0 c.args.a.now c.args.na c.args.i c.args.b.now c.args.nb c.args.j c.read_term-t-2.result c.read_term-v.result =
+    record {
+      left_there = omega (arith, c.if-na-i.false);
+      right_there = omega (arith, c.if-nb-j.false);
+      left = c.read_term-t-2.ensures;
+      right = c.read_term-v.ensures;
+    } in
+    let not-less : before c.read_term-t-2.result c.read_term-v.result ≡ false =
+    sym c.is_before.ensures ∙ c.if-is_before.false in
+    step_greater _ _ _ _ _ _ _ heads not-less _ c.turned-u-2.ensures
+    (sym c.is_before-2.ensures ∙ c.if-is_before-2.true)
+
+pub joined-both-requires : goal.joined-both-requires
+joined-both-requires c =
+    let t = small_read _ _ c.args.i _ c.requires.sound.0 c.read_term-t-2.ensures in
+    let u = small_read _ _ c.args.j _ c.requires.sound.1 c.read_term-v.ensures in
+    omega (arith, small_turned c.args.sign.0 _ _ c.turned-u-2.ensures u)
+
+pub returns : goal.returns
+returns c =
+    let heads : Heads c.args.sign.0 c.args.a.now c.args.na c.args.i c.args.b.now c.args.nb c.args.j c.read_term-t-2.result c.read_term-v.result =
+    record {
+      left_there = omega (arith, c.if-na-i.false);
+      right_there = omega (arith, c.if-nb-j.false);
+      left = c.read_term-t-2.ensures;
+      right = c.read_term-v.ensures;
+    } in
+    let not-less : before c.read_term-t-2.result c.read_term-v.result ≡ false =
+    sym c.is_before.ensures ∙ c.if-is_before.false in
+    step_level _ _ _ _ _ _ _ heads not-less _
+    (c.joined-both.ensures ∙ ap (join c.read_term-t-2.result) c.turned-u-2.ensures)
+    (sym c.is_before-2.ensures ∙ c.if-is_before-2.false)

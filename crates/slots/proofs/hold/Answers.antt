@@ -1,0 +1,8 @@
+-- `slots::hold` meets its contract: the record, then place, length and zeros side by side.
+use Rattle.slots.proofs.Lending.{held}
+use Rattle.slots.proofs.hold.Goals as goal
+
+pub returns : goal.returns
+returns c =
+    held _ _ c.requires.0 c.requires.1 _ _ _ _ _ _ c.requires.2 c.copy.ensures c.put_half.ensures c.put_half-2.ensures
+    c.wipe.ensures

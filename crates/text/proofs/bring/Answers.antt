@@ -1,0 +1,36 @@
+-- `text::bring` meets its contract: each way out gives what the definition says.
+use native.Mathlib.Omega.{arith}
+use lib.ListN.{length}
+use Rattle.record.proofs.Outputs.{gives_as}
+use Rattle.text.proofs.Bringing.{early_refused, readable, collect_room, collect_light, delivered}
+use Rattle.text.proofs.bring.Goals as goal
+
+pub returns-then-refusal-ne0 : goal.returns-then-refusal-ne0
+returns-then-refusal-ne0 c =
+    gives_as (early_refused c.args.m (length c.args.work.now) (length c.args.out.now) c.args.text.now _ c.early_refusal-refusal.ensures c.if-refusal-ne0.true)
+    c.refuse.ensures
+
+pub gather-used-requires : goal.gather-used-requires
+gather-used-requires c =
+    readable c.args.m (length c.args.work.now) c.args.text.now _ c.early_refusal-refusal.ensures c.if-refusal-ne0.false
+
+pub collect-n-requires : goal.collect-n-requires
+collect-n-requires c =
+    let rows = c.gather-used in (
+      collect_room c.args.m (length c.args.work.now) c.args.text.now _ c.early_refusal-refusal.ensures c.if-refusal-ne0.false _ rows.auto.work _ rows.ensures,
+      collect_light c.args.m (length c.args.work.now) c.args.text.now _ c.early_refusal-refusal.ensures c.if-refusal-ne0.false _ rows.auto.work _ rows.ensures,
+    )
+
+pub deliver-requires : goal.deliver-requires
+deliver-requires c =
+    let rows = c.gather-used in
+    let room =
+    collect_room c.args.m (length c.args.work.now) c.args.text.now _ c.early_refusal-refusal.ensures c.if-refusal-ne0.false _ rows.auto.work _ rows.ensures in
+    omega (arith, c.collect-n.ensures.count, c.collect-n.auto.work, room)
+
+pub returns : goal.returns
+returns c =
+    let rows = c.gather-used in
+    gives_as
+    (delivered c.args.m (length c.args.work.now) c.args.text.now _ c.early_refusal-refusal.ensures c.if-refusal-ne0.false _ rows.auto.work _ rows.ensures
+    (length c.args.out.now) _ _ c.collect-n.ensures) c.deliver.ensures
