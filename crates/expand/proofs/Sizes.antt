@@ -22,8 +22,8 @@ use Rattle.modes.proofs.Sums.{Respects, sum_through, length_respects}
 use Rattle.integers.proofs.SignedNumbers.{abs_fits}
 use Rattle.lent.specs.Rows.{Fit}
 use Rattle.products.specs.Product.{not_empty, branching}
-use Rattle.products.proofs.Multiplied.{rows_none, rows_number as product-number}
-use Rattle.products.proofs.ProductTheorems.{rows_within, rows_size as product-size}
+use Rattle.products.proofs.Multiplied.{rows_none, rows_number as product_number}
+use Rattle.products.proofs.ProductTheorems.{rows_within, rows_size as product_size}
 use Rattle.record.specs.Terms.{weight}
 use Rattle.record.specs.Canonical.{Inside}
 use Rattle.lines.specs.Grammar.{Ladder, Line}
@@ -49,7 +49,7 @@ few_rows t x = go (not_empty t.cre t.ann (creation x) (annihilation x)) refl
     few = le_trans (count_mono 64 _ (bit (2 ^ x.mode)) (λ p. branches_at t.cre t.ann p x)) (count_most 64 x.mode)
 
     go : (b : Bool) → not_empty t.cre t.ann (creation x) (annihilation x) ≡ b → length (rows_with t x) ≤ 2
-    go true e = omega (arith, product-number t.cre t.ann (creation x) (annihilation x) t.coeff e, pow_mono few)
+    go true e = omega (arith, product_number t.cre t.ann (creation x) (annihilation x) t.coeff e, pow_mono few)
     go false e = omega (arith, ap length (rows_none t.cre t.ann (creation x) (annihilation x) t.coeff e))
 
 -- lists of at most n entries each
@@ -76,7 +76,7 @@ unfolding rows_after
 rows_size t [] = more (le_refl (nat_abs t.coeff)) none
 rows_size t (x ∷ xs) =
     every_list (λ u. rows_after u xs) (rows_with t x) (λ u h. every_implies (rows_after u xs) (λ r k. le_trans k h) (rows_size u xs))
-    (product-size t.cre t.ann (creation x) (annihilation x) t.coeff)
+    (product_size t.cre t.ann (creation x) (annihilation x) t.coeff)
 
 weight_most : (n : ℕ) (ts : List Term) → Every (λ t. nat_abs t.coeff ≤ n) ts → weight ts ≤ n * length ts
 unfolding weight

@@ -63,10 +63,10 @@ module _ (t : Term) (x : Ladder) where
 
     -- ---- the rows
 
-    module _ (some-rows : full ≡ true) where
+    module _ (some_rows : full ≡ true) where
       walked : rows_with t x ≡ walk (count 64 (bit left)) left low_row
       walked =
-          rows_full t.cre t.ann (creation x) (annihilation x) t.coeff some-rows
+          rows_full t.cre t.ann (creation x) (annihilation x) t.coeff some_rows
           ∙ sym (walk_rows t.cre t.ann (creation x) (annihilation x) left small is t.coeff)
 
       -- no mode branches

@@ -36,7 +36,7 @@ record_of cre ann = encode 2 (row cre ann one ∷ [])
 
 pub data Case : Type 0 where
   -- {l-cre|l-ann} times {r-cre|r-ann} has these rows, in this order
-  product : (l-cre l-ann r-cre r-ann : ℕ) → List Term → Case
+  product : (l_cre l_ann r_cre r_ann : ℕ) → List Term → Case
   -- {cre|ann} on a ket gives this
   gives : (cre ann ket : ℕ) → ApplyResult → Case
   -- {cre|ann} on any ket gives that ket, plus
@@ -47,7 +47,7 @@ pub data Case : Type 0 where
   element_is : (l : List ℕ) (bra ket : ℕ) → ℤ → Case
 
 abbrev pub Holds : Case → Type 0
-Holds (product l-cre l-ann r-cre r-ann rows) = rows_times l-cre l-ann r-cre r-ann (pos 1) ≡ rows
+Holds (product l_cre l_ann r_cre r_ann rows) = rows_times l_cre l_ann r_cre r_ann (pos 1) ≡ rows
 Holds (gives cre ann ket r) = applied cre ann ket ≡ r
 Holds (keeps cre ann) = (ket : ℕ) → applied cre ann ket ≡ plus ket
 Holds (commutes a b work room o) = commutator_of work room (read_as 1 a) (read_as 2 b) ≡ o

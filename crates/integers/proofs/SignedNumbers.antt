@@ -12,10 +12,10 @@ use mir.Syntax.{w64}
 use mir.Val.{SFits, Fits, to_z, of_z}
 use mir.Facts.{to_z-of_z, to_z_pos}
 
-pub neg-fits : (x : ℤ) → nat_abs x < 2 ^ 63 → SFits w64 (neg_ℤ x)
-neg-fits (pos zero) h = record { sfits = h }
-neg-fits (pos (suc n)) h = record { sfits = omega arith }
-neg-fits (negsuc n) h = record { sfits = h }
+pub neg_fits : (x : ℤ) → nat_abs x < 2 ^ 63 → SFits w64 (neg_ℤ x)
+neg_fits (pos zero) h = record { sfits = h }
+neg_fits (pos (suc n)) h = record { sfits = omega arith }
+neg_fits (negsuc n) h = record { sfits = h }
 
 -- -1 - k, at k and at -(k + 1)
 less_one : (k : ℕ) → negsuc 0 -ℤ pos k ≡ negsuc k

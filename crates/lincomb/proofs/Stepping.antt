@@ -126,9 +126,9 @@ module _ (minus : Bool) (a : List ℕ) (na i : ℕ) (b : List ℕ) (nb j : ℕ) 
           on = omega arith;
         }
 
-    module _ (not-less : before t u ≡ false) where
+    module _ (not_less : before t u ≡ false) where
       e : before t u' ≡ false
-      e = before_turned ∙ not-less
+      e = before_turned ∙ not_less
 
       pub step_greater : (w : Term) → w ≡ u' → before u t ≡ true → Pulled minus a na i b nb j (record { term = w; left = i; right = j + 1 })
       step_greater w is greater =
@@ -143,8 +143,8 @@ module _ (minus : Bool) (a : List ℕ) (na i : ℕ) (b : List ℕ) (nb j : ℕ) 
           }
 
       pub step_level : (w : Term) → w ≡ join t u' → before u t ≡ false → Pulled minus a na i b nb j (record { term = w; left = i + 1; right = j + 1 })
-      step_level w is not-greater =
-          let f : before u' t ≡ false = turned_before ∙ not-greater in
+      step_level w is not_greater =
+          let f : before u' t ≡ false = turned_before ∙ not_greater in
           record {
             front = ap₂ merge p.left second ∙ merge_level t u' _ _ e f ∙ ap (λ (x : Term). x ∷ onward minus a na b nb (i + 1) (j + 1)) (sym is);
             left = of_left false f;

@@ -15,7 +15,7 @@ use Rattle.record.specs.Layout.{terms_in}
 use Rattle.record.specs.Reading.{Sound}
 use Rattle.record.proofs.Checking.{weight_front, weight_none}
 use Rattle.normal.specs.Normal.{join, drop_zeros}
-use Rattle.normal.proofs.Sizes.{drop-length, drop_weight, drop_none}
+use Rattle.normal.proofs.Sizes.{drop_length, drop_weight, drop_none}
 use Rattle.results.specs.Tallies.{Tallied}
 use Rattle.lincomb.specs.Sums.{turn}
 use Rattle.lincomb.specs.Merging.{merge, onward}
@@ -58,7 +58,7 @@ tally_starts whole = record { terms = omega arith; weigh = omega arith }
 pub tally_goes : (whole left rest : List Term) (n w : ℕ) → Tallying whole left n w → (t : Term) → left ≡ t ∷ rest → (k o : ℕ) → k ≡ nat_abs t.coeff
     → o ≡ cond (eqb k 0) 0 1 → Tallying whole rest (n + o) (w + k)
 tally_goes whole left rest n w g t e k o ek eo =
-    let len : length (drop_zeros left) ≡ o + length (drop_zeros rest) = ap (λ (z : List Term). length (drop_zeros z)) e ∙ drop-length t rest ∙ rw (eo, ek) in
+    let len : length (drop_zeros left) ≡ o + length (drop_zeros rest) = ap (λ (z : List Term). length (drop_zeros z)) e ∙ drop_length t rest ∙ rw (eo, ek) in
     let split : weight left ≡ k + weight rest = weight_front left rest t e ∙ rw ek in
     record { terms = omega (arith, g.terms); weigh = omega (arith, g.weigh) }
 

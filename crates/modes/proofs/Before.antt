@@ -11,7 +11,7 @@ use lib.Pow.{pow_pos}
 use Rattle.modes.specs.Bools.{◌⊕◌}
 use Rattle.modes.specs.Words.{Modes, bit}
 use Rattle.modes.specs.Counts.{odd, odd_exchanges}
-use Rattle.modes.proofs.Bools.{⊕_false, parity-sum}
+use Rattle.modes.proofs.Bools.{⊕_false, parity_sum}
 use Rattle.modes.proofs.Digits.{lt_or_ge, bit_of_xor, bit_of_and, bit_not, bit_half, bit_zero, bit_none}
 
 -- ---- a shift
@@ -62,7 +62,7 @@ one_window k w p l =
     let e : suc p - 1 ≡ p = omega arith in sym (ap (λ (m : ℕ). (odd p (bit w) ⊕ bit w p) ⊕ odd m (bit w)) e ∙ drop (odd p (bit w)) (bit w p))
   where
     drop : (o b : Bool) → (o ⊕ b) ⊕ o ≡ b
-    drop o b = simp parity-sum
+    drop o b = simp parity_sum
 
 none_below : (u : Modes) (m : ℕ) → m ≡ 0 → odd m u ≡ false
 unfolding odd
@@ -74,7 +74,7 @@ unfolding Window
 twice_window k n w x h p l = bit_of_xor x ((x * 2 ^ n) % 2 ^ k) p ∙ ap₂ (λ (a b : Bool). a ⊕ b) (h p l) (bit_mod k (x * 2 ^ n) p l) ∙ go (lt_or_ge p n)
   where
     merge : (a b c : Bool) → (a ⊕ b) ⊕ (b ⊕ c) ≡ a ⊕ c
-    merge a b c = simp parity-sum
+    merge a b c = simp parity_sum
 
     u : Modes
     u = bit w
@@ -95,7 +95,7 @@ window_below k w x h p l =
     ∙ strip (odd p (bit w)) (bit w p)
   where
     strip : (o b : Bool) → ((o ⊕ b) ⊕ false) ⊕ b ≡ o
-    strip o b = simp parity-sum
+    strip o b = simp parity_sum
 
 -- ---- exchanges by parities below
 

@@ -42,7 +42,7 @@ unfolding ◌⊕◌
 ⊕_self_left a b = sym (⊕_assoc a a b) ∙ ap (λ (x : Bool). x ⊕ b) (⊕_self a)
 
 -- both sides of an equation of sums modulo 2 are sorted, and what stands twice goes
-pub ruleset parity-sum = (⊕_assoc, ⊕_comm, ⊕_left, ⊕_self, ⊕_self_left, ⊕_false, false_⊕)
+pub ruleset parity_sum = (⊕_assoc, ⊕_comm, ⊕_left, ⊕_self, ⊕_self_left, ⊕_false, false_⊕)
 
 pub and_⊕ : (a b c : Bool) → (a ⊕ b) && c ≡ (a && c) ⊕ (b && c)
 unfolding ◌⊕◌
@@ -58,7 +58,7 @@ and_⊕_r true b c = refl
 and_⊕_r false b c = refl
 
 pub swap4 : (x y a b : Bool) → (x ⊕ y) ⊕ (a ⊕ b) ≡ (x ⊕ a) ⊕ (y ⊕ b)
-swap4 x y a b = simp parity-sum
+swap4 x y a b = simp parity_sum
 
 -- ---- truth tables: an equation of Booleans that holds at every row of its table holds
 

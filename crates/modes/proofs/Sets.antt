@@ -8,7 +8,7 @@ use native.Mathlib.Omega.{arith}
 use Rattle.modes.specs.Bools.{◌⊕◌, same}
 use Rattle.modes.specs.Words.{Modes, ◌△◌, each}
 use Rattle.modes.specs.Counts.{odd, odd_exchanges}
-use Rattle.modes.proofs.Bools.{⊕_false, parity-sum, swap4, and_⊕, and_⊕_r, of_same, at4, and_l, and_r}
+use Rattle.modes.proofs.Bools.{⊕_false, parity_sum, swap4, and_⊕, and_⊕_r, of_same, at4, and_l, and_r}
 
 pub △_at : (u v : Modes) (p : ℕ) → (u △ v) p ≡ u p ⊕ v p
 unfolding ◌△◌
@@ -22,7 +22,7 @@ odd_cong (suc p) u v h = ap₂ (λ (x y : Bool). x ⊕ y) (odd_cong p u v (λ i 
 pub odd_△ : (k : ℕ) (u v : Modes) → odd k (u △ v) ≡ odd k u ⊕ odd k v
 unfolding odd ◌△◌
 odd_△ zero u v = sym (⊕_false false)
-odd_△ (suc p) u v = rw (odd_△ p u v) (simp parity-sum)
+odd_△ (suc p) u v = rw (odd_△ p u v) (simp parity_sum)
 
 pub odd_exchanges_△_l : (k : ℕ) (u v w : Modes) → odd_exchanges k (u △ v) w ≡ odd_exchanges k u w ⊕ odd_exchanges k v w
 unfolding odd_exchanges

@@ -24,8 +24,8 @@ one_sign b r s p q = ap (λ (x : Bool). record { 0 = x }) (one p q)
 pub one_from_exchanges : (n : ℕ) (r s : Sign) → r.0 ≡ parity n → s.0 ≡ parity n → r ≡ s
 one_from_exchanges n = one_sign (parity n)
 
-pub one-mul : (x y r s : Sign) → r.0 ≡ x.0 ⊕ y.0 → s.0 ≡ x.0 ⊕ y.0 → r ≡ s
-one-mul x y = one_sign (x.0 ⊕ y.0)
+pub one_mul : (x y r s : Sign) → r.0 ≡ x.0 ⊕ y.0 → s.0 ≡ x.0 ⊕ y.0 → r ≡ s
+one_mul x y = one_sign (x.0 ⊕ y.0)
 
 pub one_space : (m : ℕ) (r s : MadeSpace) → r ≡ space_of m → s ≡ space_of m → r ≡ s
 one_space m r s = one

@@ -26,9 +26,9 @@ pub drop_leaves : (t : Term) (ts : List Term) → nat_abs t.coeff ≡ 0 → drop
 unfolding drop_zeros
 drop_leaves t ts h = rw (eq-eqb _ _ h)
 
-pub drop-length : (t : Term) (ts : List Term) → length (drop_zeros (t ∷ ts)) ≡ cond (eqb (nat_abs t.coeff) 0) 0 1 + length (drop_zeros ts)
+pub drop_length : (t : Term) (ts : List Term) → length (drop_zeros (t ∷ ts)) ≡ cond (eqb (nat_abs t.coeff) 0) 0 1 + length (drop_zeros ts)
 unfolding drop_zeros
-drop-length t ts = go (eqb (nat_abs t.coeff) 0)
+drop_length t ts = go (eqb (nat_abs t.coeff) 0)
   where
     go : (b : Bool) → length (cond b (drop_zeros ts) (t ∷ drop_zeros ts)) ≡ cond b 0 1 + length (drop_zeros ts)
     go true = omega arith
@@ -84,11 +84,11 @@ length_insert = insert_most (λ _. 1) length (λ t ts. omega arith) (λ t u. ome
 length_collect : (ts : List Term) → length (collect ts) ≤ length ts
 length_collect = collect_most (λ _. 1) length (λ t ts. omega arith) (λ t u. omega arith)
 
-length-drop : (ts : List Term) → length (drop_zeros ts) ≤ length ts
-length-drop = drop_most (λ _. 1) length (λ t ts. omega arith) (λ t u. omega arith)
+length_drop : (ts : List Term) → length (drop_zeros ts) ≤ length ts
+length_drop = drop_most (λ _. 1) length (λ t ts. omega arith) (λ t u. omega arith)
 
 pub length_normal : (ts : List Term) → length (normal ts) ≤ length ts
-length_normal ts = omega (arith, length-drop (collect ts), length_collect ts)
+length_normal ts = omega (arith, length_drop (collect ts), length_collect ts)
 
 pub weight_normal : (ts : List Term) → weight (normal ts) ≤ weight ts
 unfolding weight join
@@ -124,4 +124,4 @@ none_joined (t ∷ u ∷ ts) (onto h r) e =
 
 -- a list in order that its normal form is no shorter than ascends
 pub rises_ascending : (ts : List Term) → Rises ts → length ts ≤ length (normal ts) → Ascending ts
-rises_ascending ts r h = (none_joined ts r (omega (arith, length-drop (collect ts), length_collect ts))).0
+rises_ascending ts r h = (none_joined ts r (omega (arith, length_drop (collect ts), length_collect ts))).0

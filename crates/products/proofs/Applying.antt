@@ -8,7 +8,7 @@ use Rattle.modes.specs.Bools.{◌⊕◌}
 use Rattle.modes.specs.Words.{Modes, bit, ◌△◌}
 use Rattle.modes.specs.Counts.{parity, count, pairs, odd_exchanges}
 use Rattle.modes.specs.declared.Sign.{Sign}
-use Rattle.modes.proofs.Bools.{false_⊕, parity-sum}
+use Rattle.modes.proofs.Bools.{false_⊕, parity_sum}
 use Rattle.modes.proofs.Sets.{odd_exchanges_△_l, each_at, each_all}
 use Rattle.modes.proofs.Digits.{bit_below, bit_of_xor, bits_xor, ext}
 use Rattle.modes.proofs.Counts.{count_sum, count_mono, exchanges_odd, exchanges_self, parity_add}
@@ -68,7 +68,7 @@ back_digit false false false e = refl
 back_signs : (n : ℕ) (k a c : Modes)
     → odd_exchanges n ((k △ a) △ c) c ⊕ odd_exchanges n (((k △ a) △ c) △ c) a
     ≡ (odd_exchanges n k a ⊕ odd_exchanges n (k △ a) c) ⊕ (odd_exchanges n c c ⊕ odd_exchanges n a a)
-back_signs n k a c = simp (odd_exchanges_△_l, parity-sum)
+back_signs n k a c = simp (odd_exchanges_△_l, parity_sum)
 
 pairs_odd : (u : Modes) → odd_exchanges 64 u u ≡ parity (pairs (count 64 u))
 pairs_odd u = sym (exchanges_odd 64 u u) ∙ ap parity (exchanges_self 64 u)
@@ -135,7 +135,7 @@ module _ (cre ann ket : ℕ) (hc : cre < 2 ^ 64) (ha : ann < 2 ^ 64) where
         ∙ undo (bit ket p) (bit ann p) (bit cre p))
       where
         undo : (k a c : Bool) → (((k ⊕ a) ⊕ c) ⊕ c) ⊕ a ≡ k
-        undo k a c = simp parity-sum
+        undo k a c = simp parity_sum
 
     back_acts : acts ann cre w ≡ true
     back_acts =

@@ -6,7 +6,7 @@ use native.Mathlib.Omega.{arith}
 use lib.Bits.{bit_xor}
 use Rattle.modes.specs.Bools.{◌⊕◌}
 use Rattle.modes.specs.Words.{bit}
-use Rattle.modes.proofs.Bools.{parity-sum}
+use Rattle.modes.proofs.Bools.{parity_sum}
 use Rattle.modes.proofs.Digits.{bit_of_xor, ext}
 use Rattle.products.specs.PhaseRule.{Outcome, gone, went, term}
 use Rattle.products.specs.Product.{sign_of}
@@ -20,7 +20,7 @@ changed c a k =
     ∙ sym (bit_of_xor (bit_xor (bit_xor k a) c) k p ∙ ap (λ (x : Bool). x ⊕ bit k p) (bit_of_xor (bit_xor k a) c p ∙ ap (λ (x : Bool). x ⊕ bit c p) (bit_of_xor k a p))))
   where
     digit : (x y z : Bool) → x ⊕ y ≡ ((z ⊕ y) ⊕ x) ⊕ z
-    digit x y z = simp parity-sum
+    digit x y z = simp parity_sum
 
 module _ (cre ann ket : ℕ) (hc : cre < 2 ^ 64) (ha : ann < 2 ^ 64) where
   pub changes : (word : ℕ) (sign : Bool) → term cre ann (went ket false) ≡ went word sign → bit_xor cre ann ≡ bit_xor word ket

@@ -56,9 +56,9 @@ pub choices_number : (B : Modes) → length (choices 64 0 B 0) ≡ 2 ^ count 64 
 choices_number B =
     choices_length 64 0 B 0 ∙ ap (λ (k : ℕ). 2 ^ k) (sym (zero-add (count_from 64 0 B)) ∙ ap (λ (x : ℕ). x + count_from 64 0 B) (sym (count_zero B)) ∙ count_from_is 64 0 B)
 
-pub length-map : {A B : Type 0} (f : A → B) (l : List A) → length (map f l) ≡ length l
-length-map f [] = refl
-length-map f (x ∷ l) = ap suc (length-map f l)
+pub length_map : {A B : Type 0} (f : A → B) (l : List A) → length (map f l) ≡ length l
+length_map f [] = refl
+length_map f (x ∷ l) = ap suc (length_map f l)
 
 -- ---- each is a part of B, and no two are the same
 

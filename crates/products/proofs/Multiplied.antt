@@ -30,7 +30,7 @@ use Rattle.products.specs.Fitting.{Fitting, rows_of}
 use Rattle.products.specs.declared.ProductHelper.{ProductHelper}
 use Rattle.products.proofs.Walks.{none_left, walk_none}
 use Rattle.products.proofs.WalkRows.{walk_rows, branching_number}
-use Rattle.products.proofs.Choices.{length-map, choices_number}
+use Rattle.products.proofs.Choices.{length_map, choices_number}
 
 -- the code's count of branching modes
 pub bifurcation_number : (Lc La Rc Ra w : ℕ) → w < 2 ^ 64 → ((p : ℕ) → bit w p ≡ branching Lc La Rc Ra p) → ones w ≡ count 64 (branching Lc La Rc Ra)
@@ -48,7 +48,7 @@ module _ (Lc La Rc Ra : ℕ) where
   rows_full z e = rw e
 
   pub rows_number : (z : ℤ) → not_empty Lc La Rc Ra ≡ true → length (rows_times Lc La Rc Ra z) ≡ 2 ^ count 64 (branching Lc La Rc Ra)
-  rows_number z e = ap length (rows_full z e) ∙ length-map (row_times Lc La Rc Ra z) (choices 64 0 (branching Lc La Rc Ra) 0) ∙ choices_number (branching Lc La Rc Ra)
+  rows_number z e = ap length (rows_full z e) ∙ length_map (row_times Lc La Rc Ra z) (choices 64 0 (branching Lc La Rc Ra) 0) ∙ choices_number (branching Lc La Rc Ra)
 
   -- empty: no rows, and the output all zero, as after a refusal
   pub empty_is : (room : ℕ) → not_empty Lc La Rc Ra ≡ false → refused_output room none ≡ multiplied Lc La Rc Ra room

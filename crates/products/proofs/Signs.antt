@@ -8,7 +8,7 @@ use Rattle.products.specs.PhaseRule.{Outcome, gone, went}
 use Rattle.modes.specs.Bools.{◌⊕◌}
 use Rattle.modes.specs.Words.{Modes, ◌△◌}
 use Rattle.modes.specs.Counts.{odd_exchanges}
-use Rattle.modes.proofs.Bools.{parity-sum}
+use Rattle.modes.proofs.Bools.{parity_sum}
 use Rattle.modes.proofs.Sets.{odd_exchanges_△_l, odd_exchanges_△_r}
 use Rattle.products.specs.Operators.{signed, adds}
 
@@ -55,14 +55,14 @@ joined n lc la rc ra = odd_exchanges n ra rc ⊕ (odd_exchanges n (ra △ rc) la
 pub two_signs : (n : ℕ) (k lc la rc ra : Modes)
     → (odd_exchanges n k ra ⊕ odd_exchanges n (k △ ra) rc) ⊕ (odd_exchanges n ((k △ ra) △ rc) la ⊕ odd_exchanges n (((k △ ra) △ rc) △ la) lc)
     ≡ joined n lc la rc ra ⊕ odd_exchanges n k (((ra △ rc) △ la) △ lc)
-two_signs n k lc la rc ra = simp (odd_exchanges_△_l, odd_exchanges_△_r, parity-sum)
+two_signs n k lc la rc ra = simp (odd_exchanges_△_l, odd_exchanges_△_r, parity_sum)
 
 -- a row's coefficient with the row's own sign: the odd count o of modes that it keeps is all that tells two rows apart
 pub row_sign : (n : ℕ) (o x : Bool) (k a c : Modes)
     → ((o ⊕ x) ⊕ odd_exchanges n a c) ⊕ (odd_exchanges n k a ⊕ odd_exchanges n (k △ a) c) ≡ o ⊕ (x ⊕ odd_exchanges n k (a △ c))
-row_sign n o x k a c = simp (odd_exchanges_△_l, odd_exchanges_△_r, parity-sum)
+row_sign n o x k a c = simp (odd_exchanges_△_l, odd_exchanges_△_r, parity_sum)
 
 -- a row that keeps the modes d too
 pub more_sign : (n : ℕ) (a c d : Modes) → odd_exchanges n d d ≡ false
     → odd_exchanges n (a △ d) (c △ d) ≡ odd_exchanges n a c ⊕ (odd_exchanges n d c ⊕ odd_exchanges n a d)
-more_sign n a c d e = simp (odd_exchanges_△_l, odd_exchanges_△_r, e, parity-sum)
+more_sign n a c d e = simp (odd_exchanges_△_l, odd_exchanges_△_r, e, parity_sum)

@@ -49,9 +49,9 @@ pub record Part (p : ℕ) (B : Modes) (S : ℕ) : Type 0 where
   pub above : (i : ℕ) → p ≤ i → bit S i ≡ false
   pub small : S < 2 ^ 64
 
-or-true : (a : Bool) → a || true ≡ true
-or-true true = refl
-or-true false = refl
+or_true : (a : Bool) → a || true ≡ true
+or_true true = refl
+or_true false = refl
 
 -- one mode more
 pub added : (S p i : ℕ) → bit (bit_xor S (2 ^ p)) i ≡ bit S i ⊕ eqb i p
@@ -70,7 +70,7 @@ part_more {p} {B} {S} h l e =
     }
   where
     inn : (i : ℕ) (b : Bool) → eqb i p ≡ b → not (bit (bit_xor S (2 ^ p)) i) || B i ≡ true
-    inn i true q = rw (ap B (eqb-true i p q) ∙ e) (or-true (not (bit (bit_xor S (2 ^ p)) i)))
+    inn i true q = rw (ap B (eqb-true i p q) ∙ e) (or_true (not (bit (bit_xor S (2 ^ p)) i)))
     inn i false q = rw (added S p i, q, ⊕_false (bit S i)) (h.inside i)
 
 -- two functions that agree on the parts of B have one sum

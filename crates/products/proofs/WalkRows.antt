@@ -13,7 +13,7 @@ use Rattle.modes.specs.Bools.{◌⊕◌}
 use Rattle.modes.specs.Words.{Modes, bit}
 use Rattle.modes.specs.Counts.{count, odd, odd_exchanges}
 use Rattle.modes.specs.declared.Term.{Term}
-use Rattle.modes.proofs.Bools.{parity-sum}
+use Rattle.modes.proofs.Bools.{parity_sum}
 use Rattle.modes.proofs.Sets.{odd_△}
 use Rattle.modes.proofs.Digits.{bit_of_or, bit_pow, bits_xor, bit_none}
 use Rattle.modes.proofs.Lowest.{Lowest, lowest, lowest_is, lowest_less, lowest_small}
@@ -44,7 +44,7 @@ module _ (Lc La Rc Ra : ℕ) where
       (signed_signed (true ⊕ (odd_exchanges 64 (bit (2 ^ q)) (bit (cre S)) ⊕ odd_exchanges 64 (bit (ann S)) (bit (2 ^ q)))) (minus_at Lc La Rc Ra S) z))
     where
       regroup : (o t j c d : Bool) → ((o ⊕ t) ⊕ j) ⊕ (c ⊕ d) ≡ (t ⊕ d) ⊕ ((o ⊕ j) ⊕ c)
-      regroup o t j c d = simp parity-sum
+      regroup o t j c d = simp parity_sum
 
       kept : odd 64 (bit (bit_xor S (2 ^ q))) ≡ odd 64 (bit S) ⊕ true
       kept = ap (odd 64) (bits_xor S (2 ^ q)) ∙ odd_△ 64 (bit S) (bit (2 ^ q)) ∙ ap (λ (x : Bool). odd 64 (bit S) ⊕ x) (odd_one 64 q l)

@@ -59,7 +59,7 @@ text_elements bra ket ts =
 -- THE TEXT TELLS THE RECORD: two accepted records on one number of modes with one text are the same bytes
 pub same_text : (o p : ℕ) (a b : List ℕ) → Small a → Small b → (refusal_of o a).number ≡ 0 → (refusal_of p b).number ≡ 0 → modes_of a ≡ modes_of b
     → terms_text (terms_of a) ≡ terms_text (terms_of b) → a ≡ b
-same_text o p a b small-a small_b ea eb m e =
+same_text o p a b small_a small_b ea eb m e =
     let of_b : Canonical (modes_of a) (terms_of b) = subst (λ (n : ℕ). Canonical n (terms_of b)) (sym m) (accepted_canonical p b eb) in
-    same_bytes o p a b small-a small_b ea eb m (same_elements (modes_of a) (terms_of a) (terms_of b) (accepted_canonical o a ea) of_b
+    same_bytes o p a b small_a small_b ea eb m (same_elements (modes_of a) (terms_of a) (terms_of b) (accepted_canonical o a ea) of_b
     (λ bra ket hb hk. sym (text_elements bra ket (terms_of a)) ∙ ap (λ (text : List ℕ). lines_element bra ket (lines_of text)) e ∙ text_elements bra ket (terms_of b)))

@@ -89,8 +89,8 @@ module _ (room : ℕ) (a : List ℕ) (r : Written) (after : List ℕ) (g : Gives
 -- THE EXPORT TELLS THE RECORD: of two records on one number of modes, neither of them refused, equal texts are of equal bytes
 pub export_tells : (room place : ℕ) (a b : List ℕ) (r s : Written) (x y : List ℕ) → Gives (export_of room (read_as 1 a)) r x → Gives (export_of place (read_as 1 b)) s y
     → r.refusal.number ≡ 0 → s.refusal.number ≡ 0 → Small a → Small b → modes_of a ≡ modes_of b → take r.len x ≡ take s.len y → a ≡ b
-export_tells room place a b r s x y g h zr zs small-a small_b m e =
-    same_text 1 1 a b small-a small_b (export_accepted room a r x g zr) (export_accepted place b s y h zs) m
+export_tells room place a b r s x y g h zr zs small_a small_b m e =
+    same_text 1 1 a b small_a small_b (export_accepted room a r x g zr) (export_accepted place b s y h zs) m
     (sym (export_text room a r x g zr) ∙ e ∙ export_text place b s y h zs)
 
 -- ---- an accepted record

@@ -11,8 +11,8 @@ use Rattle.integers.proofs.folded.Goals as goal
 below : (c : goal.Then-x-lt0) → lt_z c.args.x (pos 0) ≡ true
 below c = tested c.args.x true c.ranges.x c.if-x-lt0.true
 
-not-below : (c : goal.Else-x-lt0) → lt_z c.args.x (pos 0) ≡ false
-not-below c = tested c.args.x false c.ranges.x c.if-x-lt0.false
+not_below : (c : goal.Else-x-lt0) → lt_z c.args.x (pos 0) ≡ false
+not_below c = tested c.args.x false c.ranges.x c.if-x-lt0.false
 
 pub overflow_sub-result : goal.overflow_sub-result
 overflow_sub-result c = rw (to_z-of_z c.ranges.x) (flip_fits c.args.x c.ranges.x (below c))
@@ -24,7 +24,7 @@ overflow_cast-result c =
 
 pub overflow_cast-result-else-x-lt0 : goal.overflow_cast-result-else-x-lt0
 overflow_cast-result-else-x-lt0 c =
-    rw (to_z-of_z c.ranges.x) (up_fits c.args.x c.ranges.x (not-below c))
+    rw (to_z-of_z c.ranges.x) (up_fits c.args.x c.ranges.x (not_below c))
 
 pub returns-then-x-lt0 : goal.returns-then-x-lt0
 returns-then-x-lt0 c =
@@ -33,4 +33,4 @@ returns-then-x-lt0 c =
 
 pub returns-else-x-lt0 : goal.returns-else-x-lt0
 returns-else-x-lt0 c =
-    rw (to_z-of_z c.ranges.x) (sym (abs_up c.args.x (not-below c)), rw (← abs_up c.args.x (not-below c)) c.ranges.x.sfits)
+    rw (to_z-of_z c.ranges.x) (sym (abs_up c.args.x (not_below c)), rw (← abs_up c.args.x (not_below c)) c.ranges.x.sfits)

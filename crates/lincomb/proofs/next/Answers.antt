@@ -44,9 +44,9 @@ returns-then-is_before-2 c =
       left = c.read_term-t-2.ensures;
       right = c.read_term-v.ensures;
     } in
-    let not-less : before c.read_term-t-2.result c.read_term-v.result ≡ false =
+    let not_less : before c.read_term-t-2.result c.read_term-v.result ≡ false =
     sym c.is_before.ensures ∙ c.if-is_before.false in
-    step_greater _ _ _ _ _ _ _ heads not-less _ c.turned-u-2.ensures
+    step_greater _ _ _ _ _ _ _ heads not_less _ c.turned-u-2.ensures
     (sym c.is_before-2.ensures ∙ c.if-is_before-2.true)
 
 pub joined-both-requires : goal.joined-both-requires
@@ -64,8 +64,8 @@ returns c =
       left = c.read_term-t-2.ensures;
       right = c.read_term-v.ensures;
     } in
-    let not-less : before c.read_term-t-2.result c.read_term-v.result ≡ false =
+    let not_less : before c.read_term-t-2.result c.read_term-v.result ≡ false =
     sym c.is_before.ensures ∙ c.if-is_before.false in
-    step_level _ _ _ _ _ _ _ heads not-less _
+    step_level _ _ _ _ _ _ _ heads not_less _
     (c.joined-both.ensures ∙ ap (join c.read_term-t-2.result) c.turned-u-2.ensures)
     (sym c.is_before-2.ensures ∙ c.if-is_before-2.false)

@@ -35,10 +35,10 @@ returns-then-work-at c =
     let v = c.loop-i in
     let step = c.append_with-at in
     let got = c.read_term-t in
-    let with-b : Term → List Term = λ t. rows_with c.args.both c.args.sign.0 t (terms_in c.args.b.now c.args.nb) in
-    let next = by_front ◌++◌ [] with-b got.ensures in
+    let with_b : Term → List Term = λ t. rows_with c.args.both c.args.sign.0 t (terms_in c.args.b.now c.args.nb) in
+    let next = by_front ◌++◌ [] with_b got.ensures in
     from_nothing _ c.args.work.now _ _
-    (progress_over _ _ c.args.work.now _ v.work v.at v.invariant.1 (with-b got.result) _ next
+    (progress_over _ _ c.args.work.now _ v.work v.at v.invariant.1 (with_b got.result) _ next
     step.new.work step.result step.auto.work step.ensures c.if-work-at.true)
 
 pub loop-i-preserved : goal.loop-i-preserved
@@ -46,10 +46,10 @@ loop-i-preserved c =
     let v = c.loop-i in
     let step = c.append_with-at in
     let got = c.read_term-t in
-    let with-b : Term → List Term = λ t. rows_with c.args.both c.args.sign.0 t (terms_in c.args.b.now c.args.nb) in
-    let next = by_front ◌++◌ [] with-b got.ensures in (
+    let with_b : Term → List Term = λ t. rows_with c.args.both c.args.sign.0 t (terms_in c.args.b.now c.args.nb) in
+    let next = by_front ◌++◌ [] with_b got.ensures in (
       omega (arith, c.loop-i-test),
-      progress_goes _ _ c.args.work.now _ v.work v.at v.invariant.1 (with-b got.result) _ next
+      progress_goes _ _ c.args.work.now _ v.work v.at v.invariant.1 (with_b got.result) _ next
           step.new.work step.result step.auto.work step.ensures c.if-work-at.false,
     )
 

@@ -13,13 +13,13 @@ use Rattle.pairs.proofs.append_both.Goals as goal
 pub returns-then-work-one : goal.returns-then-work-one
 returns-then-work-one c =
     let in_order : List Term = rows_times c.args.t.cre c.args.t.ann c.args.u.cre c.args.u.ann c.args.coeff in
-    let in-reverse : List Term = rows_times c.args.u.cre c.args.u.ann c.args.t.cre c.args.t.ann c.args.swapped in
+    let in_reverse : List Term = rows_times c.args.u.cre c.args.u.ann c.args.t.cre c.args.t.ann c.args.swapped in
     let first : Product in_order c.args.work.now c.args.s c.append-one.new.work c.append-one.result = record {
       ready = c.requires.0;
       len = c.append-one.auto.work;
       is = appended_as c.args.t c.args.u c.args.coeff _ c.helper_of.ensures c.ranges.coeff c.append-one.ensures;
     } in
-    adds_over in_order in-reverse (product_adds first) c.if-work-one.true
+    adds_over in_order in_reverse (product_adds first) c.if-work-one.true
 
 pub append-requires : goal.append-requires
 append-requires c =
@@ -34,7 +34,7 @@ append-requires c =
 pub returns-then-one-s : goal.returns-then-one-s
 returns-then-one-s c =
     let in_order : List Term = rows_times c.args.t.cre c.args.t.ann c.args.u.cre c.args.u.ann c.args.coeff in
-    let in-reverse : List Term = rows_times c.args.u.cre c.args.u.ann c.args.t.cre c.args.t.ann c.args.swapped in
+    let in_reverse : List Term = rows_times c.args.u.cre c.args.u.ann c.args.t.cre c.args.t.ann c.args.swapped in
     let first : Product in_order c.args.work.now c.args.s c.append-one.new.work c.append-one.result = record {
       ready = c.requires.0;
       len = c.append-one.auto.work;
@@ -42,12 +42,12 @@ returns-then-one-s c =
     } in
     let two = c.append in
     let few = c.if-work-one.false in
-    let other : Product in-reverse c.append-one.new.work c.append-one.result two.new.work two.result = record {
+    let other : Product in_reverse c.append-one.new.work c.append-one.result two.new.work two.result = record {
       ready = product_room first few;
       len = two.auto.work;
       is = appended_as c.args.u c.args.t c.args.swapped _ c.helper_of-then-one-s.ensures c.ranges.swapped two.ensures;
     } in
-    adds_then in_order in-reverse (product_adds first) few (product_adds other)
+    adds_then in_order in_reverse (product_adds first) few (product_adds other)
 
 pub overflow_sub-one : goal.overflow_sub-one
 overflow_sub-one c =
@@ -92,28 +92,28 @@ append-two-requires c =
 pub returns-then-work-two : goal.returns-then-work-two
 returns-then-work-two c =
     let in_order : List Term = rows_times c.args.t.cre c.args.t.ann c.args.u.cre c.args.u.ann c.args.coeff in
-    let in-reverse : List Term = rows_times c.args.u.cre c.args.u.ann c.args.t.cre c.args.t.ann c.args.swapped in
+    let in_reverse : List Term = rows_times c.args.u.cre c.args.u.ann c.args.t.cre c.args.t.ann c.args.swapped in
     let first : Product in_order c.args.work.now c.args.s c.append-one.new.work c.append-one.result = record {
       ready = c.requires.0;
       len = c.append-one.auto.work;
       is = appended_as c.args.t c.args.u c.args.coeff _ c.helper_of.ensures c.ranges.coeff c.append-one.ensures;
     } in
-    let second : Appended in-reverse c.append-one.new.work (record { used = c.append-one.result.used - 24; held = c.append-one.result.held }) c.append-two.new.work c.append-two.result =
+    let second : Appended in_reverse c.append-one.new.work (record { used = c.append-one.result.used - 24; held = c.append-one.result.held }) c.append-two.new.work c.append-two.result =
     appended_as c.args.u c.args.t c.args.swapped _ c.helper_of-2.ensures c.ranges.swapped c.append-two.ensures in
-    second_over first c.if-work-one.false c.if-one-s.false in-reverse c.append-two.auto.work second c.if-work-two.true
+    second_over first c.if-work-one.false c.if-one-s.false in_reverse c.append-two.auto.work second c.if-work-two.true
 
 pub settle-requires : goal.settle-requires
 settle-requires c =
     let in_order : List Term = rows_times c.args.t.cre c.args.t.ann c.args.u.cre c.args.u.ann c.args.coeff in
-    let in-reverse : List Term = rows_times c.args.u.cre c.args.u.ann c.args.t.cre c.args.t.ann c.args.swapped in
+    let in_reverse : List Term = rows_times c.args.u.cre c.args.u.ann c.args.t.cre c.args.t.ann c.args.swapped in
     let first : Product in_order c.args.work.now c.args.s c.append-one.new.work c.append-one.result = record {
       ready = c.requires.0;
       len = c.append-one.auto.work;
       is = appended_as c.args.t c.args.u c.args.coeff _ c.helper_of.ensures c.ranges.coeff c.append-one.ensures;
     } in
-    let second : Appended in-reverse c.append-one.new.work (record { used = c.append-one.result.used - 24; held = c.append-one.result.held }) c.append-two.new.work c.append-two.result =
+    let second : Appended in_reverse c.append-one.new.work (record { used = c.append-one.result.used - 24; held = c.append-one.result.held }) c.append-two.new.work c.append-two.result =
     appended_as c.args.u c.args.t c.args.swapped _ c.helper_of-2.ensures c.ranges.swapped c.append-two.ensures in (
-      settle_room first c.if-work-one.false c.if-one-s.false in-reverse c.append-two.auto.work second
+      settle_room first c.if-work-one.false c.if-one-s.false in_reverse c.append-two.auto.work second
           c.if-work-two.false,
       c.get_row-row.ensures.1,
     )
@@ -125,14 +125,14 @@ shape_of-work c =
 pub returns : goal.returns
 returns c =
     let in_order : List Term = rows_times c.args.t.cre c.args.t.ann c.args.u.cre c.args.u.ann c.args.coeff in
-    let in-reverse : List Term = rows_times c.args.u.cre c.args.u.ann c.args.t.cre c.args.t.ann c.args.swapped in
+    let in_reverse : List Term = rows_times c.args.u.cre c.args.u.ann c.args.t.cre c.args.t.ann c.args.swapped in
     let first : Product in_order c.args.work.now c.args.s c.append-one.new.work c.append-one.result = record {
       ready = c.requires.0;
       len = c.append-one.auto.work;
       is = appended_as c.args.t c.args.u c.args.coeff _ c.helper_of.ensures c.ranges.coeff c.append-one.ensures;
     } in
-    let second : Appended in-reverse c.append-one.new.work (record { used = c.append-one.result.used - 24; held = c.append-one.result.held }) c.append-two.new.work c.append-two.result =
+    let second : Appended in_reverse c.append-one.new.work (record { used = c.append-one.result.used - 24; held = c.append-one.result.held }) c.append-two.new.work c.append-two.result =
     appended_as c.args.u c.args.t c.args.swapped _ c.helper_of-2.ensures c.ranges.swapped c.append-two.ensures in
     let settled = c.settle in
-    settled_adds first c.if-work-one.false c.if-one-s.false in-reverse c.append-two.auto.work second c.if-work-two.false _
+    settled_adds first c.if-work-one.false c.if-one-s.false in_reverse c.append-two.auto.work second c.if-work-two.false _
     c.get_row-row.ensures.0 _ _ settled.auto.work settled.ensures

@@ -46,10 +46,10 @@ returns c =
     let row = c.args.row in
     let mode = c.args.mode in
     let one = c.requires.0 in
-    let signed-coeff = c.signed_coeff-coeff in
-    let small : SFits w64 signed-coeff.result = record { sfits = signed-coeff.type_inv } in
-    let same : to_z w64 (of_z w64 signed-coeff.result) ≡ (keeping mode row).coeff =
-    to_z-of_z small ∙ signed-coeff.ensures
+    let signed_coeff = c.signed_coeff-coeff in
+    let small : SFits w64 signed_coeff.result = record { sfits = signed_coeff.type_inv } in
+    let same : to_z w64 (of_z w64 signed_coeff.result) ≡ (keeping mode row).coeff =
+    to_z-of_z small ∙ signed_coeff.ensures
     ∙ ap₂ signed
     (c.mul.ensures ∙ ap (λ (b : Bool). true ⊕ b)
     (c.sign_of_bits.ensures ∙ kept_sign row.cre row.ann mode _ _ (above row.cre mode c.struct_known-1.given.0.fits one)

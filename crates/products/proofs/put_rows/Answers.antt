@@ -38,12 +38,12 @@ do_branch-requires c =
 
 pub returns : goal.returns
 returns c =
-    let lowest-row = c.lowest_row-row in
+    let lowest_row = c.lowest_row-row in
     let walked = c.do_branch.ensures in
     let filled : List Term → List ℕ = λ ts. put c.args.out.now c.args.at (rows_bytes ts) in (
       walked.0 ∙ walk_ends c.args.helper _ c.ranges.left.fits c.args.coeff _ (length c.args.out.now) c.requires.0,
-      ◌∙◌ {b = filled (walk (count 64 (bit c.args.left)) c.args.left lowest-row.result)} walked.1
+      ◌∙◌ {b = filled (walk (count 64 (bit c.args.left)) c.args.left lowest_row.result)} walked.1
           (ap filled
           (walk_is c.args.helper _ c.ranges.left.fits c.args.coeff _ (length c.args.out.now) c.requires.0 _
-          (lowest_is c.args.helper c.ranges.coeff _ lowest-row.ensures.0))),
+          (lowest_is c.args.helper c.ranges.coeff _ lowest_row.ensures.0))),
     )
