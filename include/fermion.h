@@ -1,7 +1,7 @@
 /* The C face of the library: exact fermion operators on up to 64 modes, for a worker written in C, C++, Rust, Python
  * or any other language that calls C. docs/INSTALL.md says how to build, install and link, docs/RECORD.md what a
  * record is and when exactly each refusal is given. `tools/shared_object.sh` makes libfermion.so and the
- * archive libfermion.a, which is for x86-64 alone.
+ * archive libfermion.a, both for x86-64 alone.
  *
  * What holds for every function:
  *

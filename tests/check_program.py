@@ -3,7 +3,7 @@
 records.py and the stored replies in answers/program.txt. Nothing else comes from it: no error output, and status 0.
 
 11 is not among its refusals: an output of 49,184 bytes holds 2,048 terms, and a result with more is refused with 10
-before (`never-eleven` in crates/reply/proofs/Theorems.antt).
+before (`never_eleven` in crates/reply/proofs/Theorems.antt).
 
     python3 tests/check_program.py --store     writes answers/program.txt anew, from records.py
 """

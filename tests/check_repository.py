@@ -218,7 +218,7 @@ def what_documents_once_said_wrongly_is_right():
         ("README.md", r"`shared_object.sh`, the library for C, Rust and Python"),
         ("README.md", r"\n## Licence\n\nApache License 2\.0"),
         ("LICENSE", r"^\s*Apache License\n\s*Version 2\.0"),
-        ("include/fermion.h", r"archive libfermion\.a, which is for x86-64 alone"),
+        ("include/fermion.h", r"archive libfermion\.a, both for x86-64 alone"),
         ("docs/RECORD.md", r"\| 1 \| [^|]*1 to 64[^|]*at most 2,048[^|]*\|"),
         ("docs/RECORD.md", r"def write\(m, terms\):  # terms: \(creation word, annihilation word, coefficient\)"),
         ("docs/INSTALL.md", r"2\^24 = 16,777,216 bytes that nobody asked for"),

@@ -4,7 +4,7 @@ byte, against ladder_text.py; and both with `commutator` between them. Nothing e
 status 0.
 
 A text of more than 1,048,576 bytes is refused with 7 before anything else is looked at, the argument too. 11 is not among
-their refusals: an output of 49,184 bytes holds every record, and one of 1,048,576 every text (`longest-text` in
+their refusals: an output of 49,184 bytes holds every record, and one of 1,048,576 every text (`longest_text` in
 crates/term_lines/proofs/Lengths.antt).
 """
 import collections
