@@ -6,7 +6,9 @@ use Rattle.branches.proofs.Ceiling.{Counts}
 use Rattle.branches.proofs.of_all.Given as goal
 
 abbrev pub invariant-loop-i : goal.invariant-loop-i
-invariant-loop-i l = (l.i ≤ l.na) × Counts l.so_far (branches_of_all (drop l.i (terms_in l.a l.na)) (terms_in l.b l.nb)) (branches_of_all (terms_in l.a l.na) (terms_in l.b l.nb))
+invariant-loop-i l =
+    (l.i ≤ l.na)
+    × Counts l.so_far (branches_of_all (drop l.i (terms_in l.a l.na)) (terms_in l.b l.nb)) (branches_of_all (terms_in l.a l.na) (terms_in l.b l.nb))
 
 abbrev pub decreases-loop-i : goal.decreases-loop-i
 decreases-loop-i l = l.na - l.i

@@ -3,10 +3,11 @@ use mathlib.Core.Path.{sym, ◌∙◌}
 use Rattle.compare.proofs.Finding.{left_out, not_named, named_rather, named_first}
 use lib.IntN.{ℤ}
 use Rattle.integers.proofs.SignedNumbers.{zero_bits, nonzero_bits}
+use borrow.Author.Rules.{rules}
 use Rattle.compare.proofs.with_term.Goals as goal
 
 pub returns-then-t-eq0 : goal.returns-then-t-eq0
-returns-then-t-eq0 c = left_out _ _ (zero_bits c.args.t.coeff (record { sfits = c.struct_told-1.given.1.1.0.1 }) c.if-t-eq0.true)
+returns-then-t-eq0 c = left_out _ _ (zero_bits c.args.t.coeff (search rules) c.if-t-eq0.true)
 
 pub returns-then-not-is_ahead : goal.returns-then-not-is_ahead
 returns-then-not-is_ahead c =

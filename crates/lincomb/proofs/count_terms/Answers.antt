@@ -1,9 +1,6 @@
 -- `lincomb::count_terms` meets its contract. The invariant: what is counted, with what is left, makes the whole.
 use borrow.Author.Rules.{rules}
-use mathlib.Core.List.{List}
 use native.Mathlib.Omega.{arith}
-use Rattle.modes.specs.declared.Term.{Term}
-use Rattle.lincomb.specs.Merging.{onward}
 use Rattle.lincomb.proofs.Stepping.{spent}
 use Rattle.lincomb.proofs.Tallying.{light_together, tally_starts, tally_goes, tally_light, tally_ends}
 use Rattle.lincomb.proofs.count_terms.Goals as goal
@@ -19,23 +16,17 @@ overflow_add-n c = omega (arith, c.kept-n.ensures.1, c.loop-i.invariant)
 
 pub overflow_add-w : goal.overflow_add-w
 overflow_add-w c =
-    let rest : List Term =
-    let a = c.args in
-    onward a.sign.0 a.a.now a.na a.b.now a.nb c.next-s.result.left c.next-s.result.right in
     let light = light_together c.args.sign.0 _ _ _ _ c.requires.0 c.requires.1 in
-    omega (arith, light, tally_light _ _ rest _ _ c.loop-i.invariant.3 _ c.next-s.ensures.front, c.size-k.ensures.0)
+    omega (arith, light, tally_light _ _ _ _ _ c.loop-i.invariant.3 _ c.next-s.ensures.front, c.size-k.ensures.0)
 
 pub loop-i-preserved : goal.loop-i-preserved
 loop-i-preserved c =
-    let rest : List Term =
-    let a = c.args in
-    onward a.sign.0 a.a.now a.na a.b.now a.nb c.next-s.result.left c.next-s.result.right in
     let s = c.next-s.ensures in
     let v = c.loop-i.invariant in (
       s.left_in,
       s.right_in,
       omega (arith, c.kept-n.ensures.1, v.2, s.on),
-      tally_goes _ _ rest _ _ v.3 _ s.front _ _ c.size-k.ensures.0 c.kept-n.ensures.0,
+      tally_goes _ _ _ _ _ v.3 _ s.front _ _ c.size-k.ensures.0 c.kept-n.ensures.0,
     )
 
 pub returns : goal.returns

@@ -1,8 +1,12 @@
 -- `lincomb::next` meets its contract: one record is spent, or one term stands before the other, or they are alike.
-use mathlib.Core.Path.{◌≡◌, sym, ap, ◌∙◌}
-use mathlib.Core.Bool.{false}
+use mathlib.Core.Path.{sym, ap, ◌∙◌}
+use mathlib.Core.Bool.{Bool}
+use mathlib.Core.List.{List}
+use Prim.Native.Nat.{ℕ, ◌<◌}
 use native.Mathlib.Omega.{arith}
-use Rattle.record.specs.Terms.{before}
+use Rattle.modes.specs.declared.Term.{Term}
+use Rattle.record.specs.Layout.{terms_in}
+use Rattle.record.specs.Reading.{At}
 use Rattle.normal.specs.Normal.{join}
 use Rattle.lincomb.proofs.Stepping.{Heads, only_left, only_right, next_right, step_less, step_greater, step_level, small_read, small_turned}
 use Rattle.lincomb.proofs.next.Goals as goal
@@ -20,15 +24,14 @@ returns-then-na-i c =
     (next_right c.args.sign.0 c.args.b.now c.args.nb c.args.j _ _ c.read_term.ensures c.turned-u.ensures)
     c.if-na-i.true (omega arith)
 
+-- both records have a term left
+both_left : {minus : Bool} {a b : List ℕ} {na i nb j : ℕ} {t u : Term} → i < na → j < nb → At (terms_in a na) i t → At (terms_in b nb) j u
+    → Heads minus a na i b nb j t u
+both_left h k x y = record { left_there = h; right_there = k; left = x; right = y }
+
 pub returns-then-is_before : goal.returns-then-is_before
 returns-then-is_before c =
-    let heads : Heads c.args.sign.0 c.args.a.now c.args.na c.args.i c.args.b.now c.args.nb c.args.j c.read_term-t-2.result c.read_term-v.result =
-    record {
-      left_there = omega (arith, c.if-na-i.false);
-      right_there = omega (arith, c.if-nb-j.false);
-      left = c.read_term-t-2.ensures;
-      right = c.read_term-v.ensures;
-    } in
+    let heads = both_left c.if-na-i.false c.if-nb-j.false c.read_term-t-2.ensures c.read_term-v.ensures in
     step_less _ _ _ _ _ _ _ heads (sym c.is_before.ensures ∙ c.if-is_before.true)
 
 pub turned-u-requires-2 : goal.turned-u-requires-2
@@ -37,15 +40,8 @@ turned-u-requires-2 c =
 
 pub returns-then-is_before-2 : goal.returns-then-is_before-2
 returns-then-is_before-2 c =
-    let heads : Heads c.args.sign.0 c.args.a.now c.args.na c.args.i c.args.b.now c.args.nb c.args.j c.read_term-t-2.result c.read_term-v.result =
-    record {
-      left_there = omega (arith, c.if-na-i.false);
-      right_there = omega (arith, c.if-nb-j.false);
-      left = c.read_term-t-2.ensures;
-      right = c.read_term-v.ensures;
-    } in
-    let not_less : before c.read_term-t-2.result c.read_term-v.result ≡ false =
-    sym c.is_before.ensures ∙ c.if-is_before.false in
+    let heads = both_left c.if-na-i.false c.if-nb-j.false c.read_term-t-2.ensures c.read_term-v.ensures in
+    let not_less = sym c.is_before.ensures ∙ c.if-is_before.false in
     step_greater _ _ _ _ _ _ _ heads not_less _ c.turned-u-2.ensures
     (sym c.is_before-2.ensures ∙ c.if-is_before-2.true)
 
@@ -57,15 +53,8 @@ joined-both-requires c =
 
 pub returns : goal.returns
 returns c =
-    let heads : Heads c.args.sign.0 c.args.a.now c.args.na c.args.i c.args.b.now c.args.nb c.args.j c.read_term-t-2.result c.read_term-v.result =
-    record {
-      left_there = omega (arith, c.if-na-i.false);
-      right_there = omega (arith, c.if-nb-j.false);
-      left = c.read_term-t-2.ensures;
-      right = c.read_term-v.ensures;
-    } in
-    let not_less : before c.read_term-t-2.result c.read_term-v.result ≡ false =
-    sym c.is_before.ensures ∙ c.if-is_before.false in
+    let heads = both_left c.if-na-i.false c.if-nb-j.false c.read_term-t-2.ensures c.read_term-v.ensures in
+    let not_less = sym c.is_before.ensures ∙ c.if-is_before.false in
     step_level _ _ _ _ _ _ _ heads not_less _
     (c.joined-both.ensures ∙ ap (join c.read_term-t-2.result) c.turned-u-2.ensures)
     (sym c.is_before-2.ensures ∙ c.if-is_before-2.false)

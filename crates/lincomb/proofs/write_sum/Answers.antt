@@ -1,12 +1,8 @@
 -- `lincomb::write_sum` meets its contract. The invariant: the terms so far stand in their places, and the rest is to come.
 use borrow.Author.Rules.{rules}
-use mathlib.Core.Path.{◌≡◌, refl, ◌∙◌}
-use mathlib.Core.List.{List}
+use mathlib.Core.Path.{refl, ◌∙◌}
 use native.Mathlib.Omega.{arith}
-use lib.IntN.{nat_abs}
-use Rattle.modes.specs.declared.Term.{Term}
 use Rattle.integers.proofs.SignedNumbers.{zero_bits, nonzero_bits}
-use Rattle.lincomb.specs.Merging.{onward}
 use Rattle.lincomb.proofs.Stepping.{spent}
 use Rattle.lincomb.proofs.Writing.{writing_starts, writing_ends, leaves_out, has_place, writes}
 use Rattle.lincomb.proofs.write_sum.Goals as goal
@@ -19,51 +15,36 @@ next-s-requires c = record { sound = c.requires.sound; inside = search rules }
 
 pub put_term-requires : goal.put_term-requires
 put_term-requires c =
-    let rest : List Term =
-    let a = c.args in
-    onward a.sign.0 a.a.now a.na a.b.now a.nb c.next-s.result.left c.next-s.result.right in
-    let nonzero : nat_abs c.next-s.result.term.coeff ≡ 0 → ⊥ =
-    nonzero_bits c.next-s.result.term.coeff c.if-t-ne0.true in
+    let nonzero = nonzero_bits c.next-s.result.term.coeff c.if-t-ne0.true in
     let p = c.requires.fits in
     let v = c.loop-i.invariant in
-    (omega (arith, v.3, p.1), has_place _ _ _ p.0 _ _ v.2 _ rest c.next-s.ensures.front nonzero)
+    (omega (arith, v.3, p.1), has_place _ _ _ p.0 _ _ v.2 _ _ c.next-s.ensures.front nonzero)
 
 pub overflow_add-k : goal.overflow_add-k
 overflow_add-k c =
-    let rest : List Term =
-    let a = c.args in
-    onward a.sign.0 a.a.now a.na a.b.now a.nb c.next-s.result.left c.next-s.result.right in
-    let nonzero : nat_abs c.next-s.result.term.coeff ≡ 0 → ⊥ =
-    nonzero_bits c.next-s.result.term.coeff c.if-t-ne0.true in
+    let nonzero = nonzero_bits c.next-s.result.term.coeff c.if-t-ne0.true in
     let p = c.requires.fits in
-    omega (arith, has_place _ _ _ p.0 _ _ c.loop-i.invariant.2 _ rest c.next-s.ensures.front nonzero)
+    omega (arith, has_place _ _ _ p.0 _ _ c.loop-i.invariant.2 _ _ c.next-s.ensures.front nonzero)
 
 pub loop-i-preserved-then-t-ne0 : goal.loop-i-preserved-then-t-ne0
 loop-i-preserved-then-t-ne0 c =
-    let rest : List Term =
-    let a = c.args in
-    onward a.sign.0 a.a.now a.na a.b.now a.nb c.next-s.result.left c.next-s.result.right in
-    let nonzero : nat_abs c.next-s.result.term.coeff ≡ 0 → ⊥ =
-    nonzero_bits c.next-s.result.term.coeff c.if-t-ne0.true in
+    let nonzero = nonzero_bits c.next-s.result.term.coeff c.if-t-ne0.true in
     let p = c.requires.fits in
     let v = c.loop-i.invariant in
     let s = c.next-s.ensures in (
       s.left_in,
       s.right_in,
-      writes _ _ _ p.0 _ _ v.2 _ rest s.front nonzero _ c.put_term.ensures,
+      writes _ _ _ p.0 _ _ v.2 _ _ s.front nonzero _ c.put_term.ensures,
       c.put_term.auto.out ∙ v.3,
     )
 
 pub loop-i-preserved : goal.loop-i-preserved
 loop-i-preserved c =
-    let rest : List Term =
-    let a = c.args in
-    onward a.sign.0 a.a.now a.na a.b.now a.nb c.next-s.result.left c.next-s.result.right in
     let p = c.requires.fits in
     let v = c.loop-i.invariant in
     let s = c.next-s.ensures in
-    let zero = zero_bits c.next-s.result.term.coeff (record { sfits = c.struct_told-1.given.1.1.0.1 }) c.if-t-ne0.false in
-    (s.left_in, s.right_in, leaves_out _ _ _ p.0 _ _ v.2 _ rest s.front zero, v.3)
+    let zero = zero_bits c.next-s.result.term.coeff (search rules) c.if-t-ne0.false in
+    (s.left_in, s.right_in, leaves_out _ _ _ p.0 _ _ v.2 _ _ s.front zero, v.3)
 
 pub finish-requires : goal.finish-requires
 finish-requires c =

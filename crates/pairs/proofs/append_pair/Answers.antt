@@ -2,42 +2,43 @@
 use Rattle.pairs.proofs.Appending.{appended_as}
 use Rattle.pairs.proofs.Filling.{product_adds}
 use Rattle.pairs.proofs.Pairing.{product_below, swapped_below, one_order, both_orders}
+use borrow.Author.Rules.{rules}
 use Rattle.pairs.proofs.append_pair.Goals as goal
 
 pub signed_coeff-swapped-requires : goal.signed_coeff-swapped-requires
 signed_coeff-swapped-requires c =
-    product_below c.args.sign.0 c.args.t c.args.u (record { sfits = c.struct_told-1.given.1.1.0.1 })
-    (record { sfits = c.struct_told-2-1.given.1.1.0.1 }) c.requires.1 _ c.product-coeff.ensures
+    product_below c.args.sign.0 c.args.t c.args.u (search rules)
+    (search rules) c.requires.1 _ c.product-coeff.ensures
 
 pub append_both-requires : goal.append_both-requires
 append_both-requires c = (
   c.requires.0,
-  product_below c.args.sign.0 c.args.t c.args.u (record { sfits = c.struct_told-1.given.1.1.0.1 })
-      (record { sfits = c.struct_told-2-1.given.1.1.0.1 }) c.requires.1 _ c.product-coeff.ensures,
+  product_below c.args.sign.0 c.args.t c.args.u (search rules)
+      (search rules) c.requires.1 _ c.product-coeff.ensures,
   swapped_below
-      c.args.sign.0 c.args.t c.args.u (record { sfits = c.struct_told-1.given.1.1.0.1 })
-      (record { sfits = c.struct_told-2-1.given.1.1.0.1 }) c.requires.1 _ c.product-coeff.ensures _
+      c.args.sign.0 c.args.t c.args.u (search rules)
+      (search rules) c.requires.1 _ c.product-coeff.ensures _
       c.signed_coeff-swapped.ensures,
 )
 
 pub returns-then-both : goal.returns-then-both
 returns-then-both c =
-    rw c.if-both.true (both_orders c.args.sign.0 c.args.t c.args.u (record { sfits = c.struct_told-1.given.1.1.0.1 })
-    (record { sfits = c.struct_told-2-1.given.1.1.0.1 }) c.requires.1 _ c.product-coeff.ensures _ c.signed_coeff-swapped.ensures
+    rw c.if-both.true (both_orders c.args.sign.0 c.args.t c.args.u (search rules)
+    (search rules) c.requires.1 _ c.product-coeff.ensures _ c.signed_coeff-swapped.ensures
     c.append_both.ensures)
 
 pub append-requires : goal.append-requires
 append-requires c = (
   c.requires.0,
-  product_below c.args.sign.0 c.args.t c.args.u (record { sfits = c.struct_told-1.given.1.1.0.1 })
-      (record { sfits = c.struct_told-2-1.given.1.1.0.1 }) c.requires.1 _ c.product-coeff.ensures,
+  product_below c.args.sign.0 c.args.t c.args.u (search rules)
+      (search rules) c.requires.1 _ c.product-coeff.ensures,
 )
 
 pub returns : goal.returns
 returns c =
     let one = c.append in
-    rw c.if-both.false (one_order c.args.sign.0 c.args.t c.args.u (record { sfits = c.struct_told-1.given.1.1.0.1 })
-    (record { sfits = c.struct_told-2-1.given.1.1.0.1 }) c.requires.1 _ c.product-coeff.ensures
+    rw c.if-both.false (one_order c.args.sign.0 c.args.t c.args.u (search rules)
+    (search rules) c.requires.1 _ c.product-coeff.ensures
     (product_adds (record {
       ready = c.requires.0;
       len = one.auto.work;

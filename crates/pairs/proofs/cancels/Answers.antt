@@ -2,6 +2,7 @@
 use mathlib.Core.Path.{sym}
 use mathlib.Core.Bool.{true≢false}
 use Rattle.pairs.proofs.Standing.{opposite_rows}
+use borrow.Author.Rules.{rules}
 use Rattle.pairs.proofs.cancels.Goals as goal
 
 pub returns-then-x-y : goal.returns-then-x-y
@@ -16,6 +17,6 @@ returns-then-x-y-3 c = λ e. absurd (true≢false (sym e))
 pub returns : goal.returns
 returns c =
     λ e.
-    opposite_rows c.args.x c.args.y (record { sfits = c.struct_told-3-1.given.1.1.0.1 })
-    (record { sfits = c.struct_told-4-1.given.1.1.0.1 }) c.if-x-y.false c.if-x-y-2.false c.if-x-y-3.false _ _
+    opposite_rows c.args.x c.args.y (search rules)
+    (search rules) c.if-x-y.false c.if-x-y-2.false c.if-x-y-3.false _ _
     c.magnitude.ensures.0 c.magnitude-2.ensures.0 e

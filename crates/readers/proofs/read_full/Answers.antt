@@ -21,8 +21,12 @@ slice_range_put_mid a k n xs ys within fits =
 pub loop-done-preserved : goal.loop-done-preserved
 loop-done-preserved g c =
     let from = c.loop-done.done in
-    let room = length c.loop-done.buf - from in
+    let before = c.loop-done.buf in
+    let room = length before - from in
     let within = c.loop-done.invariant.1 in
-    let part = slice_range_put_mid from room c.in_ok-n.n c.loop-done.buf c.read.new.buf within c.in_ok-n.ensures.bound.0 in
-    let joined = take_split from (from + c.in_ok-n.n) c.loop-done.buf (put_mid from room c.loop-done.buf c.read.new.buf) (omega arith) (take-put_mid_below _ _ _ _ _ (le_refl _) within) in
-    (search rules, search rules, subst (Consumes _ _) (ap (λ l. take from c.loop-done.buf ++ l) (sym part) ∙ joined) (Consumes-trans _ _ _ _ _ c.loop-done.invariant.2 c.in_ok-n.ensures.bytes.0))
+    let read = c.in_ok-n.ensures in
+    let after = put_mid from room before c.read.new.buf in
+    let part = slice_range_put_mid from room c.in_ok-n.n before c.read.new.buf within read.bound.0 in
+    let joined = take_split from (from + c.in_ok-n.n) before after (omega arith) (take-put_mid_below _ _ _ _ _ (le_refl _) within) in
+    let bytes = ap (λ l. take from before ++ l) (sym part) ∙ joined in
+    (search rules, search rules, subst (Consumes _ _) bytes (Consumes-trans _ _ _ _ _ c.loop-done.invariant.2 read.bytes.0))

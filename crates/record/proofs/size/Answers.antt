@@ -1,6 +1,11 @@
 -- `record::size` meets its contract.
 use mir.Facts.{to_z-of_z}
+use mir.Syntax.{w64}
+use mir.Val.{SFits}
+use borrow.Author.Rules.{rules}
 use Rattle.record.proofs.size.Goals as goal
 
 pub returns : goal.returns
-returns c = rw (to_z-of_z (record { sfits = c.struct_told-1.given.1.1.0.1 })) at c.magnitude.ensures
+returns c =
+    let small : SFits w64 c.args.t.coeff = search rules in
+    rw (to_z-of_z small) at c.magnitude.ensures

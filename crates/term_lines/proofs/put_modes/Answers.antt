@@ -1,32 +1,32 @@
 -- `term_lines::put_modes` meets its contract: the ladders of the modes that are done, and those of the rest to come.
-use mathlib.Core.Path.{refl, ◌∙◌}
-use Prim.Native.Nat.{◌+◌, ◌≤◌}
+use mathlib.Core.Path.{◌≡◌, refl, ◌∙◌}
+use mathlib.Core.List.{List}
+use Prim.Native.Nat.{ℕ, ◌+◌, ◌≤◌}
 use native.Mathlib.Omega.{arith}
 use lib.ListN.{length, length-set}
 use Rattle.modes.specs.Words.{bit, lowest_mode}
 use Rattle.modes.proofs.Lowest.{less_lt}
 use Rattle.decimals.specs.Decimal.{field}
-use Rattle.term_lines.proofs.Modes.{writing_starts, writing_ends, writing_room, writing_goes}
+use Rattle.term_lines.proofs.Modes.{Writing, writing_starts, writing_ends, writing_room, writing_goes}
 use Rattle.term_lines.proofs.put_modes.Goals as goal
 
 pub loop-rest-init : goal.loop-rest-init
 loop-rest-init c =
     (writing_starts c.args.kind c.args.word c.args.s.now c.args.at c.ranges.word.fits (omega (arith, c.requires)), refl)
 
+-- the lowest mode of the rest has room
+mode_room : (kind word at : ℕ) (l : List ℕ) {m : List ℕ} {end rest : ℕ} → at + 256 ≤ length l → Writing kind word l at m end rest → (rest ≡ 0 → ⊥)
+    → length m ≡ length l → end + 1 + length (field (lowest_mode 64 (bit rest)) kind) ≤ length m
+mode_room kind word at l {m} {end} {rest} h w some len = omega (arith, h, len, writing_room kind word l at m end rest w some)
+
 pub bounds-s-end : goal.bounds-s-end
 bounds-s-end c =
-    let room : let v = c.loop-rest in let s = c in v.end + 1 + length (field (lowest_mode 64 (bit v.rest)) s.args.kind) ≤ length v.s =
-    let v = c.loop-rest in
-    let s = c in
-    omega (arith, s.requires, v.invariant.1, writing_room s.args.kind _ _ _ v.s v.end v.rest v.invariant.0 c.loop-rest-test.true) in
+    let room = mode_room _ _ _ _ c.requires c.loop-rest.invariant.0 c.loop-rest-test.true c.loop-rest.invariant.1 in
     omega (arith, room)
 
 pub overflow_add-end : goal.overflow_add-end
 overflow_add-end c =
-    let room : let v = c.loop-rest in let s = c in v.end + 1 + length (field (lowest_mode 64 (bit v.rest)) s.args.kind) ≤ length v.s =
-    let v = c.loop-rest in
-    let s = c in
-    omega (arith, s.requires, v.invariant.1, writing_room s.args.kind _ _ _ v.s v.end v.rest v.invariant.0 c.loop-rest-test.true) in
+    let room = mode_room _ _ _ _ c.requires c.loop-rest.invariant.0 c.loop-rest-test.true c.loop-rest.invariant.1 in
     record { fits = omega (arith, room, c.loop-rest.invariant.1) }
 
 pub lowest_mode-requires : goal.lowest_mode-requires
@@ -34,10 +34,7 @@ lowest_mode-requires c = tt
 
 pub put_field-end-requires : goal.put_field-end-requires
 put_field-end-requires c =
-    let room : let v = c.loop-rest in let s = c in v.end + 1 + length (field (lowest_mode 64 (bit v.rest)) s.args.kind) ≤ length v.s =
-    let v = c.loop-rest in
-    let s = c in
-    omega (arith, s.requires, v.invariant.1, writing_room s.args.kind _ _ _ v.s v.end v.rest v.invariant.0 c.loop-rest-test.true) in
+    let room = mode_room _ _ _ _ c.requires c.loop-rest.invariant.0 c.loop-rest-test.true c.loop-rest.invariant.1 in
     let v = c.loop-rest in rw (c.lowest_mode.ensures, length-set v.s v.end 32) room
 
 pub overflow_sub-rest : goal.overflow_sub-rest
@@ -48,10 +45,7 @@ loop-rest-smaller c = less_lt c.loop-rest.rest (omega arith)
 
 pub loop-rest-preserved : goal.loop-rest-preserved
 loop-rest-preserved c =
-    let room : let v = c.loop-rest in let s = c in v.end + 1 + length (field (lowest_mode 64 (bit v.rest)) s.args.kind) ≤ length v.s =
-    let v = c.loop-rest in
-    let s = c in
-    omega (arith, s.requires, v.invariant.1, writing_room s.args.kind _ _ _ v.s v.end v.rest v.invariant.0 c.loop-rest-test.true) in
+    let room = mode_room _ _ _ _ c.requires c.loop-rest.invariant.0 c.loop-rest-test.true c.loop-rest.invariant.1 in
     let put = c.put_field-end in
     let mode = c.lowest_mode in
     let v = c.loop-rest in
