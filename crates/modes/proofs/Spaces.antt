@@ -1,5 +1,5 @@
 -- Words inside a space of m modes, and the refusal of a word outside it.
-use mathlib.Core.Path.{◌≡◌, sym, ap, ◌∙◌}
+use mathlib.Core.Path.{◌≡◌}
 use mathlib.Core.Bool.{true, ◌&&◌}
 use mathlib.Core.Logic.{◌⊎◌, inl, inr}
 use Prim.Native.Nat.{ℕ, ◌^◌, ◌≤◌, ◌<◌}
@@ -8,7 +8,7 @@ use lib.Dec.{ltb}
 use lib.Bits.{bit_or, or_lt, or_add_and, and_le_l, and_le_r}
 use borrow.Author.Tests.{lt-ltb, le-ltb}
 use Rattle.modes.proofs.Refusals.{needed}
-use Rattle.modes.specs.declared.Refusal.{Refusal}
+use Rattle.modes.specs.declared.Reason.TheVariants.{OccupationOutside}
 use Rattle.modes.specs.Answers.{refusal, none}
 use Rattle.modes.specs.Spaces.{inside, word_refusal}
 use Rattle.modes.proofs.Digits.{lt_or_ge}
@@ -23,10 +23,6 @@ inside_both m cre ann = go (lt_or_ge ann (2 ^ m)) (lt_or_ge cre (2 ^ m))
     go (inl h) (inr k) = rw (lt-ltb _ _ h, le-ltb _ _ k) (le-ltb (bit_or ann cre) (2 ^ m) (omega (arith, or_add_and ann cre, and_le_l ann cre)))
     go (inr h) k = rw (le-ltb _ _ h) (le-ltb (bit_or ann cre) (2 ^ m) (omega (arith, or_add_and ann cre, and_le_r ann cre)))
 
--- a word whose refusal has no number is inside
-pub word_inside : (m o p w : ℕ) → (word_refusal m o p w).number ≡ 0 → ltb w (2 ^ m) ≡ true
-word_inside m o p w z = needed (ltb w (2 ^ m)) (refusal 12 o p) (λ e. absurd (omega arith)) z
-
--- and not refused
-pub word_none : (m o p w : ℕ) (r : Refusal) → r ≡ word_refusal m o p w → r.number ≡ 0 → word_refusal m o p w ≡ none
-word_none m o p w r e z = rw (word_inside m o p w (ap (λ (x : Refusal). x.number) (sym e) ∙ z))
+-- a word that is not refused is inside
+pub word_inside : (m o p w : ℕ) → word_refusal m o p w ≡ none → ltb w (2 ^ m) ≡ true
+word_inside m o p w z = needed (ltb w (2 ^ m)) (refusal OccupationOutside o p) z

@@ -1,37 +1,39 @@
--- What calls come back with: a refusal's number, operand and place, or none, with the length and the branches of what was written.
-use Rattle.std.specs.Prelude.{ℕ}
+-- What calls come back with: a refusal, by reason, operand and place, or none; and what was written to an output, by length and branches.
+use Rattle.std.specs.Prelude.{ℕ, Result, Ok}
+use Rattle.modes.specs.declared.Reason.{Reason}
+use Rattle.modes.specs.declared.Reason.TheVariants.{ModesDiffer, RowsDoNotFit, ProductTooHeavy, ResultTooHeavy, TooManyTerms, OutputTooShort}
 use Rattle.modes.specs.declared.Refusal.{Refusal}
 use Rattle.modes.specs.declared.Written.{Written}
 
-abbrev pub refusal : ℕ → ℕ → ℕ → Refusal
-refusal number operand place = record { number = number; operand = operand; place = place }
+abbrev pub refusal : Reason → ℕ → ℕ → Refusal
+refusal reason operand place = record { reason = reason; operand = operand; place = place }
+
+-- whether something is refused, and by what
+abbrev pub Verdict : Type 0
+Verdict = Result (Unit {0}) Refusal
 
 -- not refused
-abbrev pub none : Refusal
-none = refusal 0 0 0
+abbrev pub none : Verdict
+none = Ok tt
 
 -- the refusals that blame no operand: their operand and place are 0
 abbrev pub modes_differ : Refusal
-modes_differ = refusal 6 0 0
+modes_differ = refusal ModesDiffer 0 0
 
 abbrev pub rows_do_not_fit : Refusal
-rows_do_not_fit = refusal 7 0 0
+rows_do_not_fit = refusal RowsDoNotFit 0 0
 
 abbrev pub product_too_heavy : Refusal
-product_too_heavy = refusal 8 0 0
+product_too_heavy = refusal ProductTooHeavy 0 0
 
 abbrev pub result_too_heavy : Refusal
-result_too_heavy = refusal 9 0 0
+result_too_heavy = refusal ResultTooHeavy 0 0
 
 abbrev pub too_many_terms : Refusal
-too_many_terms = refusal 10 0 0
+too_many_terms = refusal TooManyTerms 0 0
 
 abbrev pub output_too_short : Refusal
-output_too_short = refusal 11 0 0
-
--- refused: length and branches are 0
-abbrev pub refused : Refusal → Written
-refused r = record { refusal = r; len = 0; branches = 0 }
+output_too_short = refusal OutputTooShort 0 0
 
 abbrev pub wrote : ℕ → ℕ → Written
-wrote len branches = record { refusal = none; len = len; branches = branches }
+wrote len branches = record { len = len; branches = branches }

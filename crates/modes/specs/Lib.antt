@@ -4,6 +4,7 @@ pub mod Counts
 pub mod Every
 pub mod Sums
 pub mod Terms
+pub mod Reasons
 pub mod Answers
 pub mod Refusals
 pub mod Spaces

@@ -6,7 +6,7 @@ ghost use Rattle.modes.specs.Bools.{◌⊕◌};
 ghost use Rattle.modes.specs.Words.{bit, lowest_mode};
 ghost use Rattle.modes.specs.Counts.{parity, count};
 ghost use Rattle.modes.specs.Spaces.{space_of, inside, word_refusal, words_refusal};
-ghost use Rattle.modes.specs.Answers.{refused};
+ghost use Rattle.modes.specs.Reasons.{number_of};
 
 // A sign, plus or minus; the bool is true for minus.
 #[derive(Clone, Copy)]
@@ -41,26 +41,20 @@ pub struct ModeSpace {
     pub count: u64,
 }
 
-#[derive(Clone, Copy)]
-pub enum MadeSpace {
-    Made(ModeSpace),
-    Refused,
-}
-
 impl ModeSpace {
     pub const MAX: u64 = 64;
 
-    // the space of `count` modes, refused outside 1 to MAX
-    pub fn from_count(count: u64) -> MadeSpace
+    // the space of `count` modes, none outside 1 to MAX
+    pub fn from_count(count: u64) -> Option<ModeSpace>
         ensures { result ≡ space_of count }
     {
         if count == 0 {
-            return MadeSpace::Refused;
+            return None;
         }
         if ModeSpace::MAX < count {
-            return MadeSpace::Refused;
+            return None;
         }
-        MadeSpace::Made(ModeSpace { count })
+        Some(ModeSpace { count })
     }
 
     // does the word hold only modes of the space
@@ -85,78 +79,94 @@ pub struct Term {
     pub coeff: i64,
 }
 
-// Why a call was refused: a number, an operand and a place. The number is 0 where it was not.
-#[derive(Clone, Copy)]
+// Why a call is refused. The numbers are those of the C face.
+#[derive(Clone, Copy, Debug, PartialEq, Eq)]
+pub enum Reason {
+    Malformed = 1,
+    WordOutside = 2,
+    OutOfOrder = 3,
+    ZeroCoeff = 4,
+    TooHeavy = 5,
+    ModesDiffer = 6,
+    RowsDoNotFit = 7,
+    ProductTooHeavy = 8,
+    ResultTooHeavy = 9,
+    TooManyTerms = 10,
+    OutputTooShort = 11,
+    OccupationOutside = 12,
+    NotFinite = 13,
+    BadBasis = 14,
+    BadReport = 15,
+    BadLine = 16,
+    TooManyLadders = 17,
+    NoSuchParty = 18,
+    DamagedHalf = 19,
+    NoFreeSlot = 20,
+    NoGap = 21,
+    NoSuchSlot = 22,
+}
+
+impl Reason {
+    pub fn number(self) -> u64
+        ensures { result ≡ number_of self }
+    {
+        self as u64
+    }
+}
+
+// What refuses a call: the reason, the operand that it blames, and the place there.
+#[derive(Clone, Copy, Debug, PartialEq, Eq)]
 pub struct Refusal {
-    pub number: u64,
+    pub reason: Reason,
     pub operand: u64,
     pub place: u64,
 }
 
 impl Refusal {
-    pub const NONE: Refusal = Refusal {
-        number: 0,
-        operand: 0,
-        place: 0,
-    };
-
     // The refusals that blame no operand.
     pub const MODES_DIFFER: Refusal = Refusal {
-        number: 6,
+        reason: Reason::ModesDiffer,
         operand: 0,
         place: 0,
     };
 
     pub const ROWS_DO_NOT_FIT: Refusal = Refusal {
-        number: 7,
+        reason: Reason::RowsDoNotFit,
         operand: 0,
         place: 0,
     };
 
     pub const PRODUCT_TOO_HEAVY: Refusal = Refusal {
-        number: 8,
+        reason: Reason::ProductTooHeavy,
         operand: 0,
         place: 0,
     };
 
     pub const RESULT_TOO_HEAVY: Refusal = Refusal {
-        number: 9,
+        reason: Reason::ResultTooHeavy,
         operand: 0,
         place: 0,
     };
 
     pub const TOO_MANY_TERMS: Refusal = Refusal {
-        number: 10,
+        reason: Reason::TooManyTerms,
         operand: 0,
         place: 0,
     };
 
     pub const OUTPUT_TOO_SHORT: Refusal = Refusal {
-        number: 11,
+        reason: Reason::OutputTooShort,
         operand: 0,
         place: 0,
     };
 }
 
-// What a call that fills a lent output comes back with: the length in bytes of what stands there, and the rows or
-// branches. Both are 0 after a refusal.
+// What a call that fills a lent output and is not refused comes back with: the length in bytes of what stands there, and
+// the rows or branches.
 #[derive(Clone, Copy)]
 pub struct Written {
-    pub refusal: Refusal,
     pub len: usize,
     pub branches: u64,
-}
-
-impl Written {
-    pub fn refused(refusal: Refusal) -> Written
-        ensures { result ≡ refused refusal }
-    {
-        Written {
-            refusal,
-            len: 0,
-            branches: 0,
-        }
-    }
 }
 
 // How many modes the word holds.
@@ -180,27 +190,24 @@ pub fn is_inside(space: ModeSpace, cre: u64, ann: u64) -> bool
     space.contains(ann | cre)
 }
 
-// Number 12 of a word that the caller names, where it holds a mode outside.
-pub fn word_refusal(space: ModeSpace, operand: u64, place: u64, word: u64) -> Refusal
+// A word that the caller names is refused where it holds a mode outside.
+pub fn word_refusal(space: ModeSpace, operand: u64, place: u64, word: u64) -> Result<(), Refusal>
     ensures { result ≡ word_refusal space.count operand place word }
 {
     if space.contains(word) {
-        return Refusal::NONE;
+        return Ok(());
     }
-    Refusal {
-        number: 12,
+    Err(Refusal {
+        reason: Reason::OccupationOutside,
         operand,
         place,
-    }
+    })
 }
 
 // The bra is checked before the ket.
-pub fn words_refusal(space: ModeSpace, bra: u64, ket: u64) -> Refusal
+pub fn words_refusal(space: ModeSpace, bra: u64, ket: u64) -> Result<(), Refusal>
     ensures { result ≡ words_refusal space.count bra ket }
 {
-    let r = word_refusal(space, 3, 0, bra);
-    if r.number != 0 {
-        return r;
-    }
+    word_refusal(space, 3, 0, bra)?;
     word_refusal(space, 4, 0, ket)
 }
