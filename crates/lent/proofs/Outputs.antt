@@ -2,8 +2,10 @@
 use mathlib.Core.Path.{◌≡◌, sym, ◌∙◌}
 use mathlib.Core.List.{List}
 use Prim.Native.Nat.{ℕ}
+use Rattle.std.specs.Prelude.{Result}
+use Rattle.modes.specs.declared.Refusal.{Refusal}
 use Rattle.modes.specs.declared.Written.{Written}
 use Rattle.lent.specs.Outputs.{Output, Gives}
 
-pub gives_one : {o : Output} {r s : Written} {x y : List ℕ} → Gives o r x → Gives o s y → (r ≡ s) × (x ≡ y)
+pub gives_one : {o : Output} {r s : Result Written Refusal} {x y : List ℕ} → Gives o r x → Gives o s y → (r ≡ s) × (x ≡ y)
 gives_one g h = (g.answer ∙ sym h.answer, g.bytes ∙ sym h.bytes)

@@ -79,22 +79,14 @@ pub fn copy(s: &mut [u8], at: usize, from: &[u8])
     requires { at + length from.now ≤ length s.old }
     ensures { s.new ≡ put s.old at from.now }
 {
-    let mut k = 0;
-    while k < from.len() {
-        s[at + k] = from[k];
-        k += 1;
-    }
+    s[at..at + from.len()].copy_from_slice(from);
 }
 
 // Every byte to zero.
 pub fn wipe(buf: &mut [u8])
     ensures { buf.new ≡ zeros (length buf.old) }
 {
-    let mut i = 0;
-    while i < buf.len() {
-        buf[i] = 0;
-        i += 1;
-    }
+    buf.fill(0);
 }
 
 // Every byte from `from` on to zero.
@@ -105,10 +97,10 @@ pub fn wipe_from(buf: &mut [u8], from: usize)
     wipe(&mut buf[from..]);
 }
 
-// The one way to refuse: the output wiped whole, and length and branches 0.
-pub fn refuse(out: &mut [u8], refusal: Refusal) -> Written
+// The one way to refuse: the output wiped whole.
+pub fn refuse(out: &mut [u8], refusal: Refusal) -> Result<Written, Refusal>
     ensures { Gives (refused_output (length out.old) refusal) result out.new }
 {
     wipe(out);
-    Written::refused(refusal)
+    Err(refusal)
 }
