@@ -1,9 +1,10 @@
 -- What calls come back with: a refusal, by reason, operand and place, or none; and what was written to an output, by length and branches.
-use Rattle.std.specs.Prelude.{ℕ, Result, Ok}
+use Rattle.std.specs.Prelude.{ℕ, Result, Ok, Err}
 use Rattle.modes.specs.declared.Reason.{Reason}
 use Rattle.modes.specs.declared.Reason.TheVariants.{ModesDiffer, RowsDoNotFit, ProductTooHeavy, ResultTooHeavy, TooManyTerms, OutputTooShort}
 use Rattle.modes.specs.declared.Refusal.{Refusal}
 use Rattle.modes.specs.declared.Written.{Written}
+use Rattle.modes.specs.Reasons.{number_of}
 
 abbrev pub refusal : Reason → ℕ → ℕ → Refusal
 refusal reason operand place = record { reason = reason; operand = operand; place = place }
@@ -37,3 +38,16 @@ output_too_short = refusal OutputTooShort 0 0
 
 abbrev pub wrote : ℕ → ℕ → Written
 wrote len branches = record { len = len; branches = branches }
+
+-- an answer as three numbers: those of its refusal, or 0 where it is not refused
+abbrev pub number_in : {A : Type 0} → Result A Refusal → ℕ
+number_in (Ok x) = 0
+number_in (Err r) = number_of r.reason
+
+abbrev pub operand_in : {A : Type 0} → Result A Refusal → ℕ
+operand_in (Ok x) = 0
+operand_in (Err r) = r.operand
+
+abbrev pub place_in : {A : Type 0} → Result A Refusal → ℕ
+place_in (Ok x) = 0
+place_in (Err r) = r.place

@@ -1,5 +1,5 @@
 -- The three ways in which `mul_cmpnts` answers, and that the walk's rows are the product's, with room for them.
-use mathlib.Core.Path.{◌≡◌, sym, ap, ap₂, ◌∙◌}
+use mathlib.Core.Path.{◌≡◌, refl, sym, ap, ap₂, ◌∙◌}
 use mathlib.Core.Bool.{true, false}
 use mathlib.Core.List.{List, [], ◌++◌, map}
 use Prim.Native.Nat.{ℕ, ◌+◌, ◌-◌, ◌*◌, ◌/◌, ◌^◌, ◌≤◌, ◌<◌}
@@ -17,7 +17,10 @@ use mir.Facts.{to_z-of_z}
 use borrow.Author.Tests.{lt-ltb, le-ltb}
 use Rattle.modes.specs.Words.{bit}
 use Rattle.modes.specs.Counts.{count}
-use Rattle.modes.specs.Answers.{refusal, refused, none, wrote}
+use Rattle.std.specs.Prelude.{Result, Ok}
+use Rattle.modes.specs.Answers.{rows_do_not_fit, wrote}
+use Rattle.modes.specs.declared.Refusal.{Refusal}
+use Rattle.modes.specs.declared.Written.{Written}
 use Rattle.modes.specs.declared.Term.{Term}
 use Rattle.modes.proofs.Counts.{ones_word}
 use Rattle.lent.specs.Bytes.{put, zeros}
@@ -38,6 +41,9 @@ bifurcation_number Lc La Rc Ra w h is = ones_word w h ∙ branching_number Lc La
 
 -- ---- the three answers
 
+abbrev fills : ℕ → ℕ → Result Written Refusal
+fills len branches = Ok (wrote len branches)
+
 module _ (Lc La Rc Ra : ℕ) where
   pub rows_none : (z : ℤ) → not_empty Lc La Rc Ra ≡ false → rows_times Lc La Rc Ra z ≡ []
   unfolding rows_times
@@ -50,16 +56,17 @@ module _ (Lc La Rc Ra : ℕ) where
   pub rows_number : (z : ℤ) → not_empty Lc La Rc Ra ≡ true → length (rows_times Lc La Rc Ra z) ≡ 2 ^ count 64 (branching Lc La Rc Ra)
   rows_number z e = ap length (rows_full z e) ∙ length_map (row_times Lc La Rc Ra z) (choices 64 0 (branching Lc La Rc Ra) 0) ∙ choices_number (branching Lc La Rc Ra)
 
-  -- empty: no rows, and the output all zero, as after a refusal
-  pub empty_is : (room : ℕ) → not_empty Lc La Rc Ra ≡ false → refused_output room none ≡ multiplied Lc La Rc Ra room
+  -- empty: no rows, and the output all zero
+  pub empty_is : (room : ℕ) (after : List ℕ) → not_empty Lc La Rc Ra ≡ false → after ≡ zeros room
+      → Gives (multiplied Lc La Rc Ra room) (Ok (wrote 0 0)) after
   unfolding multiplied rows_bytes
-  empty_is room e =
+  empty_is room after e z =
       let all : room ≡ room - 0 = omega arith in
-      rw (rows_none (pos 1) e, e) (λ i. record { answer = refused none; bytes = zeros (all i) })
+      rw (rows_none (pos 1) e, e) (record { answer = refl; bytes = z ∙ ap zeros all })
 
   -- not empty, and no room
   pub seven_is : (room : ℕ) → not_empty Lc La Rc Ra ≡ true → room < 24 * 2 ^ count 64 (branching Lc La Rc Ra)
-      → refused_output room (refusal 7 0 0) ≡ multiplied Lc La Rc Ra room
+      → refused_output room rows_do_not_fit ≡ multiplied Lc La Rc Ra room
   unfolding multiplied
   seven_is room e l = rw (e, lt-ltb room _ l)
 
@@ -67,12 +74,12 @@ module _ (Lc La Rc Ra : ℕ) where
   pub gives_rows : (l : List ℕ) → not_empty Lc La Rc Ra ≡ true → 24 * 2 ^ count 64 (branching Lc La Rc Ra) ≤ length l → (end branches : ℕ) (m after : List ℕ)
       → end ≡ 0 + 24 * length (rows_times Lc La Rc Ra (pos 1)) → m ≡ put l 0 (rows_bytes (rows_times Lc La Rc Ra (pos 1))) → length m ≡ length l
       → branches ≡ end / 24 → after ≡ take end m ++ zeros (length m - end)
-      → Gives (multiplied Lc La Rc Ra (length l)) (wrote end branches) after
+      → Gives (multiplied Lc La Rc Ra (length l)) (Ok (wrote end branches)) after
   unfolding multiplied put
   gives_rows l full room end branches m after ee em el eb ea = record {
     answer =
         rw (full, le-ltb (length l) _ room)
-        (ap₂ wrote (at_end ∙ sym size) (eb ∙ ap (λ (n : ℕ). n / 24) at_end ∙ mul-div_cancel_left (length (rows_times Lc La Rc Ra (pos 1))) (lit< tt)));
+        (ap₂ fills (at_end ∙ sym size) (eb ∙ ap (λ (n : ℕ). n / 24) at_end ∙ mul-div_cancel_left (length (rows_times Lc La Rc Ra (pos 1))) (lit< tt)));
     bytes = ea ∙ rw (full, le-ltb (length l) _ room) (ap₂ (λ (x y : List ℕ). x ++ y)
         (ap (take end) em ∙ take_at (rows_bytes (rows_times Lc La Rc Ra (pos 1))) (drop (0 + length (rows_bytes (rows_times Lc La Rc Ra (pos 1)))) l) end (size ∙ sym at_end))
         (ap₂ (λ (n k : ℕ). zeros (n - k)) el (at_end ∙ sym size)));

@@ -3,7 +3,6 @@ use mathlib.Core.Path.{◌≡◌, refl, sym, ap, ap₂, ◌∙◌, subst}
 use mathlib.Core.Bool.{Bool, true, false, not, cond, ◌&&◌, ◌||◌}
 use mathlib.Core.List.{List, [], ◌++◌, map}
 use Prim.Native.Nat.{ℕ, ◌-◌, ◌*◌, ◌^◌, ◌≤◌, ◌<◌}
-use native.Mathlib.Omega.{arith}
 use native.Mathlib.Nat.{le_trans, le_of_eq, lt_of_le_of_lt}
 use lib.Bits.{bit_and, bit_or, bit_xor, or_lt, xor_lt, and_lt, and_le_r}
 use lib.Dec.{ltb, lit<}
@@ -12,7 +11,9 @@ use lib.ListN.{length}
 use Rattle.modes.specs.Bools.{◌⊕◌, same}
 use Rattle.modes.specs.Words.{bit}
 use Rattle.modes.specs.Counts.{count}
-use Rattle.modes.specs.Answers.{refusal}
+use Rattle.std.specs.Prelude.{Result, Ok}
+use Rattle.modes.specs.Answers.{rows_do_not_fit, number_in}
+use Rattle.modes.specs.declared.Refusal.{Refusal}
 use Rattle.modes.specs.declared.Written.{Written}
 use Rattle.modes.proofs.Bools.{of_same, at5}
 use Rattle.modes.proofs.Digits.{bit_of_and, bit_none, ext}
@@ -117,7 +118,7 @@ module _ (Lc La Rc Ra : ℕ) where
         go true = every_map (row_times Lc La Rc Ra z) (choices 64 0 (branching Lc La Rc Ra) 0) (row_fits z l) parts
         go false = none
 
-    module _ (room : ℕ) (r : Written) (after : List ℕ) (gives : Gives (multiplied Lc La Rc Ra room) r after) (accepted : r.refusal.number ≡ 0) where
+    module _ (room : ℕ) (r : Written) (after : List ℕ) (gives : Gives (multiplied Lc La Rc Ra room) (Ok r) after) where
       -- a call that is not refused leaves the rows, and reports how many they are
       filled : (r.branches ≡ length (rows_times Lc La Rc Ra (pos 1))) ×
           (after ≡ rows_bytes (rows_times Lc La Rc Ra (pos 1)) ++ zeros (room - length (rows_bytes (rows_times Lc La Rc Ra (pos 1)))))
@@ -125,13 +126,13 @@ module _ (Lc La Rc Ra : ℕ) where
       filled = go (no_room Lc La Rc Ra room) gives.answer gives.bytes
         where
           o : Bool → Output
-          o b = cond b (refused_output room (refusal 7 0 0)) (filled_output room (length (rows_times Lc La Rc Ra (pos 1))) (rows_bytes (rows_times Lc La Rc Ra (pos 1))))
+          o b = cond b (refused_output room rows_do_not_fit) (filled_output room (length (rows_times Lc La Rc Ra (pos 1))) (rows_bytes (rows_times Lc La Rc Ra (pos 1))))
 
-          go : (b : Bool) → r ≡ (o b).answer → after ≡ (o b).bytes
+          go : (b : Bool) → Ok r ≡ (o b).answer → after ≡ (o b).bytes
               → (r.branches ≡ length (rows_times Lc La Rc Ra (pos 1))) ×
               (after ≡ rows_bytes (rows_times Lc La Rc Ra (pos 1)) ++ zeros (room - length (rows_bytes (rows_times Lc La Rc Ra (pos 1)))))
-          go true e f = let z : ◌≡◌ {A = ℕ} 7 0 = sym (ap (λ (w : Written). w.refusal.number) e) ∙ accepted in absurd (omega arith)
-          go false e f = (ap (λ (w : Written). w.branches) e, f)
+          go true e f = cc
+          go false e f = let same : r ≡ record { len = length (rows_bytes (rows_times Lc La Rc Ra (pos 1))); branches = length (rows_times Lc La Rc Ra (pos 1)) } = cc in (ap (λ (w : Written). w.branches) same, f)
 
       pub rows_left : rows_at after 0 r.branches ≡ rows_times Lc La Rc Ra (pos 1)
       rows_left =
@@ -157,12 +158,12 @@ module _ (Lc La Rc Ra : ℕ) where
   -- ---- the refusal
 
   -- refused with 7 exactly if the product isn't empty and 24 times 2^b exceeds the output's length
-  pub refused_where : (room : ℕ) (r : Written) (after : List ℕ) → Gives (multiplied Lc La Rc Ra room) r after
-      → r.refusal.number ≡ cond (not_empty Lc La Rc Ra && ltb room (24 * 2 ^ count 64 (branching Lc La Rc Ra))) 7 0
+  pub refused_where : (room : ℕ) (r : Result Written Refusal) (after : List ℕ) → Gives (multiplied Lc La Rc Ra room) r after
+      → number_in r ≡ cond (not_empty Lc La Rc Ra && ltb room (24 * 2 ^ count 64 (branching Lc La Rc Ra))) 7 0
   unfolding multiplied
-  refused_where room r after g = ap (λ (w : Written). w.refusal.number) g.answer ∙ go (no_room Lc La Rc Ra room)
+  refused_where room r after g = ap number_in g.answer ∙ go (no_room Lc La Rc Ra room)
     where
-      go : (b : Bool) → (cond b (refused_output room (refusal 7 0 0))
-          (filled_output room (length (rows_times Lc La Rc Ra (pos 1))) (rows_bytes (rows_times Lc La Rc Ra (pos 1))))).answer.refusal.number ≡ cond b 7 0
+      go : (b : Bool) → number_in (cond b (refused_output room rows_do_not_fit)
+          (filled_output room (length (rows_times Lc La Rc Ra (pos 1))) (rows_bytes (rows_times Lc La Rc Ra (pos 1))))).answer ≡ cond b 7 0
       go true = refl
       go false = refl

@@ -11,6 +11,8 @@ use Rattle.modes.specs.Words.{bit}
 use Rattle.modes.specs.Counts.{count, exchanges}
 use Rattle.modes.specs.declared.Sign.{Sign}
 use Rattle.modes.specs.declared.Term.{Term}
+use Rattle.std.specs.Prelude.{Result}
+use Rattle.modes.specs.declared.Refusal.{Refusal}
 use Rattle.modes.specs.declared.Written.{Written}
 use Rattle.modes.proofs.Digits.{ext}
 use Rattle.modes.proofs.Unique.{one}
@@ -69,6 +71,6 @@ module _ (l : List ℕ) (at : ℕ) (r s : ℕ) (x y : List ℕ) where
       → (s ≡ at + 24 * length (rows_of h z)) × (y ≡ put l at (rows_bytes (rows_of h z))) → (r ≡ s) × (x ≡ y)
   one_put_rows h z = one_rows l at _ (rows_of h z) r s x y
 
-pub one_product : (Lc La Rc Ra room : ℕ) (r s : Written) (x y : List ℕ) → Gives (multiplied Lc La Rc Ra room) r x
+pub one_product : (Lc La Rc Ra room : ℕ) (r s : Result Written Refusal) (x y : List ℕ) → Gives (multiplied Lc La Rc Ra room) r x
     → Gives (multiplied Lc La Rc Ra room) s y → (r ≡ s) × (x ≡ y)
 one_product Lc La Rc Ra room r s x y = gives_one

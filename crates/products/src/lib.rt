@@ -1,7 +1,7 @@
 // One term on one occupation word, and the rows of one product, by the phase rule.
 #![tactic(auto)]
 
-ghost use Rattle.std.specs.Prelude.{◌≡◌, not, ℕ, ◌+◌, ◌-◌, ◌*◌, ◌≤◌, ◌<◌, ◌^◌, leb, nat_abs, length};
+ghost use Rattle.std.specs.Prelude.{◌≡◌, Ok, not, ℕ, ◌+◌, ◌-◌, ◌*◌, ◌≤◌, ◌<◌, ◌^◌, leb, nat_abs, length};
 ghost use Rattle.std.specs.Int.Count.{ones};
 ghost use Rattle.modes.specs.Words.{bit};
 ghost use Rattle.modes.specs.Counts.{count, exchanges, odd, odd_exchanges};
@@ -245,19 +245,24 @@ pub fn put_rows(out: &mut [u8], at: usize, helper: ProductHelper, left: u64, coe
 // The rows to the front of the output, and zeros past them.
 fn write_rows(helper: ProductHelper, left: u64, out: &mut [u8]) -> Written
     requires { Fitting helper left (length out.old) }
-    ensures { Gives (multiplied helper.l_cre helper.l_ann helper.r_cre helper.r_ann (length out.old)) result out.new }
+    ensures { Gives (multiplied helper.l_cre helper.l_ann helper.r_cre helper.r_ann (length out.old)) (Ok result) out.new }
 {
     let end = put_rows(out, 0, helper, left, 1);
     lent::wipe_from(out, end);
     Written {
-        refusal: Refusal::NONE,
         len: end,
         branches: (end / 24) as u64,
     }
 }
 
 // The rows of the product L R, 24 bytes each, in order, and zeros past them. Refused with 7 if they do not fit.
-pub fn mul_cmpnts(l_cre: u64, l_ann: u64, r_cre: u64, r_ann: u64, out: &mut [u8]) -> Written
+pub fn mul_cmpnts(
+    l_cre: u64,
+    l_ann: u64,
+    r_cre: u64,
+    r_ann: u64,
+    out: &mut [u8],
+) -> Result<Written, Refusal>
     ensures { Gives (multiplied l_cre l_ann r_cre r_ann (length out.old)) result out.new }
 {
     let helper = ProductHelper {
@@ -267,11 +272,15 @@ pub fn mul_cmpnts(l_cre: u64, l_ann: u64, r_cre: u64, r_ann: u64, out: &mut [u8]
         r_ann,
     };
     if helper.destroys() {
-        return lent::refuse(out, Refusal::NONE);
+        lent::wipe(out);
+        return Ok(Written {
+            len: 0,
+            branches: 0,
+        });
     }
     let left = helper.bifurcations();
     if rows_fit(left, out.len()) {
-        return write_rows(helper, left, out);
+        return Ok(write_rows(helper, left, out));
     }
 
     lent::refuse(out, Refusal::ROWS_DO_NOT_FIT)

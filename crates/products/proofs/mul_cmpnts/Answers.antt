@@ -11,12 +11,10 @@ use Rattle.products.proofs.mul_cmpnts.Goals as goal
 
 pub returns-then-destroys : goal.returns-then-destroys
 returns-then-destroys c =
-    let refuse = c.refuse in
     let empty =
     not-true (not_empty c.args.l_cre c.args.l_ann c.args.r_cre c.args.r_ann)
     (sym c.destroys.ensures ∙ c.if-destroys.true) in
-    subst (λ (o : Output). Gives o refuse.result refuse.new.out)
-    (empty_is c.args.l_cre c.args.l_ann c.args.r_cre c.args.r_ann (length c.args.out.now) empty) refuse.ensures
+    empty_is c.args.l_cre c.args.l_ann c.args.r_cre c.args.r_ann (length c.args.out.now) _ empty c.wipe.ensures
 
 pub write_rows-requires : goal.write_rows-requires
 write_rows-requires c =
@@ -32,7 +30,7 @@ write_rows-requires c =
 
 pub returns : goal.returns
 returns c =
-    let refuse = c.refuse-2 in
+    let refuse = c.refuse in
     let modes = c.bifurcations-left in
     let full = not-false (not_empty c.args.l_cre c.args.l_ann c.args.r_cre c.args.r_ann) (sym c.destroys.ensures ∙ c.if-destroys.false) in
     let number = bifurcation_number c.args.l_cre c.args.l_ann c.args.r_cre c.args.r_ann modes.result modes.type_inv modes.ensures in
