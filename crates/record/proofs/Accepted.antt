@@ -1,26 +1,28 @@
 -- What is accepted is canonical, and what is canonical is not refused.
-use mathlib.Core.Path.{◌≡◌, refl, sym, ap, ◌∙◌}
+use mathlib.Core.Path.{◌≡◌, refl, ap, ◌∙◌}
 use mathlib.Core.Bool.{Bool, true, ◌&&◌, not}
 use mathlib.Core.List.{List, [], ◌∷◌}
 use Prim.Native.Nat.{ℕ, suc, ◌^◌, ◌≤◌}
 use native.Mathlib.Omega.{arith}
 use lib.Dec.{eqb, ltb, leb}
 use lib.IntN.{ℤ, pos, negsuc, nat_abs}
-use borrow.Author.Tests.{ne_eqb, lt-ltb, eqb-false, ltb-true, leb-true, le-leb, not-true}
+use borrow.Author.Tests.{ne_eqb, lt-ltb, eqb-false, ltb-true, leb-true, not-true}
 use Rattle.modes.proofs.Bools.{and_l, and_r}
 use Rattle.modes.specs.declared.Term.{Term}
 use Rattle.modes.specs.declared.Refusal.{Refusal}
+use Rattle.std.specs.Prelude.{Ok, Err}
+use Rattle.modes.specs.declared.Reason.TheVariants.{Malformed, WordOutside, OutOfOrder, ZeroCoeff, TooHeavy}
 use Rattle.modes.specs.Answers.{refusal, none as unrefused}
 use Rattle.modes.specs.Every.{Every, none, more}
 use Rattle.record.specs.Terms.{before, Above, Ascending, empty, above, weight}
 use Rattle.record.specs.Layout.{laid_out, modes_of, count_of, terms_in, terms_of}
 use Rattle.modes.specs.Refusals.{or_else, need}
 use Rattle.modes.specs.Spaces.{inside}
-use Rattle.record.specs.Refusals.{term_refusal, terms_refusal, refusal_of, accepted_record, refused_record, checked_of}
+use Rattle.record.specs.Refusals.{term_refusal, terms_refusal, refusal_of, accepted_record, checked_of}
 use Rattle.record.specs.Reading.{Holds, Sound}
 use Rattle.record.specs.Canonical.{Inside, Nonzero, Canonical}
 use Rattle.record.specs.declared.Checked.{Checked}
-use Rattle.modes.proofs.Refusals.{or_second, neither, not_refused, either_way, needed}
+use Rattle.modes.proofs.Refusals.{or_second, neither, not_refused, refused_by, needed}
 use Rattle.record.proofs.Order.{above_trans}
 use Rattle.record.proofs.Header.{Laid, laid}
 use Rattle.record.proofs.Reading.{length_terms}
@@ -38,16 +40,16 @@ pub record Right (m : ℕ) (up : Bool) (t : Term) : Type 0 where
   pub above : up ≡ true
   pub nonzero : Nonzero t
 
-pub term_right : (o m i : ℕ) (up : Bool) (t : Term) → (term_refusal o m i up t).number ≡ 0 → Right m up t
+pub term_right : (o m i : ℕ) (up : Bool) (t : Term) → term_refusal o m i up t ≡ unrefused → Right m up t
 unfolding term_refusal inside
 term_right o m i up t e =
-    let first = neither (need (inside m t.cre t.ann) (refusal 2 o i)) _ e in
-    let rest = neither (need up (refusal 3 o i)) _ first.1 in
-    let held = needed (ltb t.ann (2 ^ m) && ltb t.cre (2 ^ m)) (refusal 2 o i) (λ z. absurd (omega arith)) first.0 in
+    let first = neither (need (inside m t.cre t.ann) (refusal WordOutside o i)) _ e in
+    let rest = neither (need up (refusal OutOfOrder o i)) _ first.1 in
+    let held = needed (ltb t.ann (2 ^ m) && ltb t.cre (2 ^ m)) (refusal WordOutside o i) first.0 in
     record {
       inside = record { ann = ltb-true _ _ (and_l (ltb t.ann (2 ^ m)) _ held); cre = ltb-true _ _ (and_r (ltb t.ann (2 ^ m)) _ held) };
-      above = needed up (refusal 3 o i) (λ z. absurd (omega arith)) rest.0;
-      nonzero = λ h. eqb-false _ _ (not-true _ (needed (not (eqb (nat_abs t.coeff) 0)) (refusal 4 o i) (λ z. absurd (omega arith)) rest.1)) (ap nat_abs h);
+      above = needed up (refusal OutOfOrder o i) rest.0;
+      nonzero = λ h. eqb-false _ _ (not-true _ (needed (not (eqb (nat_abs t.coeff) 0)) (refusal ZeroCoeff o i) rest.1)) (ap nat_abs h);
     }
 
 right_none : (o m i : ℕ) (up : Bool) (t : Term) → Right m up t → term_refusal o m i up t ≡ unrefused
@@ -74,7 +76,7 @@ record AllRight (m : ℕ) (up : Term → Bool) (ts : List Term) : Type 0 where
   pub ascending : Ascending ts
   pub nonzero : Every Nonzero ts
 
-all_right : (o m i : ℕ) (up : Term → Bool) (ts : List Term) → (terms_refusal o m i up ts).number ≡ 0 → AllRight m up ts
+all_right : (o m i : ℕ) (up : Term → Bool) (ts : List Term) → terms_refusal o m i up ts ≡ unrefused → AllRight m up ts
 unfolding terms_refusal
 all_right o m i up [] e = record { begins = tt; inside = none; ascending = empty; nonzero = none }
 all_right o m i up (t ∷ ts) e =
@@ -98,23 +100,23 @@ none_refused o m i up (t ∷ ts) b (more h hs) (above a s) (more n ns) =
 
 -- ---- the record
 
-module _ (o : ℕ) (l : List ℕ) (e : (refusal_of o l).number ≡ 0) where
-  laid_number : (need (laid_out l) (refusal 1 o 0)).number ≡ 0
+module _ (o : ℕ) (l : List ℕ) (e : refusal_of o l ≡ unrefused) where
+  laid_fine : need (laid_out l) (refusal Malformed o 0) ≡ unrefused
   unfolding refusal_of
-  laid_number = (neither _ _ e).0
+  laid_fine = (neither _ _ e).0
 
-  rest_number : (or_else (terms_refusal o (modes_of l) 0 (λ _. true) (terms_of l)) (need (leb (weight (terms_of l)) (2 ^ 60)) (refusal 5 o 0))).number ≡ 0
+  rest_fine : or_else (terms_refusal o (modes_of l) 0 (λ _. true) (terms_of l)) (need (leb (weight (terms_of l)) (2 ^ 60)) (refusal TooHeavy o 0)) ≡ unrefused
   unfolding refusal_of
-  rest_number = (neither _ _ e).1
+  rest_fine = (neither _ _ e).1
 
   is_laid : laid_out l ≡ true
-  is_laid = needed (laid_out l) (refusal 1 o 0) (λ z. absurd (omega arith)) laid_number
+  is_laid = needed (laid_out l) (refusal Malformed o 0) laid_fine
 
   is_light : weight (terms_of l) ≤ 2 ^ 60
-  is_light = leb-true _ _ (needed (leb (weight (terms_of l)) (2 ^ 60)) (refusal 5 o 0) (λ z. absurd (omega arith)) (neither _ _ rest_number).1)
+  is_light = leb-true _ _ (needed (leb (weight (terms_of l)) (2 ^ 60)) (refusal TooHeavy o 0) (neither _ _ rest_fine).1)
 
   right : AllRight (modes_of l) (λ _. true) (terms_of l)
-  right = all_right o (modes_of l) 0 (λ _. true) (terms_of l) (neither _ _ rest_number).0
+  right = all_right o (modes_of l) 0 (λ _. true) (terms_of l) (neither _ _ rest_fine).0
 
   pub accepted_laid : Laid l
   accepted_laid = laid l is_laid
@@ -132,37 +134,28 @@ module _ (o : ℕ) (l : List ℕ) (e : (refusal_of o l).number ≡ 0) where
         light = is_light;
       }
 
-  -- a number of 0 is no refusal
-  pub accepted_none : refusal_of o l ≡ unrefused
-  unfolding refusal_of
-  accepted_none =
-      rw (is_laid, none_refused o (modes_of l) 0 (λ _. true) (terms_of l) right.begins right.inside right.ascending right.nonzero, le-leb _ _ is_light)
-      (or_second unrefused _ refl ∙ or_second unrefused _ refl)
-
 -- its terms can be read, and weigh no more than the ceiling
-pub sound : (o : ℕ) (l : List ℕ) (n : ℕ) → (refusal_of o l).number ≡ 0 → n ≡ count_of l → Sound l n
+pub sound : (o : ℕ) (l : List ℕ) (n : ℕ) → refusal_of o l ≡ unrefused → n ≡ count_of l → Sound l n
 sound o l n e q = record { size = omega (arith, (accepted_laid o l e).size); light = rw q (accepted_canonical o l e).light }
 
--- a check that found none
+-- a check that refuses nothing
 pub record Accepted (o : ℕ) (l : List ℕ) (c : Checked) : Type 0 where
-  pub number : (refusal_of o l).number ≡ 0
+  pub fine : refusal_of o l ≡ unrefused
   pub laid : Laid l
   pub canonical : Canonical (modes_of l) (terms_of l)
-  pub none : refusal_of o l ≡ unrefused
   pub is : c ≡ accepted_record l
   pub held : Sound l c.terms
   -- the terms of the number that the check answers
   pub terms : terms_in l c.terms ≡ terms_of l
 
-pub accepted : (o : ℕ) (l : List ℕ) (c : Checked) → c ≡ checked_of o l → c.refusal.number ≡ 0 → Accepted o l c
-accepted o l c e z =
-    let found = not_refused (refusal_of o l) refused_record (accepted_record l) (λ d. d.refusal) refl c e z in
+pub accepted : (o : ℕ) (l : List ℕ) (c : Checked) → Ok c ≡ checked_of o l → Accepted o l c
+accepted o l c e =
+    let found = not_refused (accepted_record l) (refusal_of o l) c e in
     let n = found.0 in
     record {
-      number = n;
+      fine = n;
       laid = accepted_laid o l n;
       canonical = accepted_canonical o l n;
-      none = accepted_none o l n;
       is = found.1;
       held = sound o l c.terms n (ap (λ (d : Checked). d.terms) found.1);
       terms = ap (λ (d : Checked). terms_in l d.terms) found.1;
@@ -172,12 +165,6 @@ accepted o l c e z =
 pub readable : (o : ℕ) (l : List ℕ) (c : Checked) → Accepted o l c → Holds l c.terms × Ascending (terms_in l c.terms)
 readable o l c k = (k.held.size, rw k.terms k.canonical.ascending)
 
--- a check tells the record's refusal
-pub refusal_told : (o : ℕ) (l : List ℕ) (c : Checked) → c ≡ checked_of o l → c.refusal ≡ refusal_of o l
-refusal_told o l c e =
-    ap (λ (d : Checked). d.refusal) e
-    ∙ either_way (refusal_of o l) refused_record (accepted_record l) (λ d. d.refusal ≡ refusal_of o l) (λ z. sym (accepted_none o l z)) (λ h. refl)
-
--- a check that refuses
-pub refused : (o : ℕ) (l : List ℕ) (c : Checked) → c ≡ checked_of o l → (c.refusal.number ≡ 0 → ⊥) → (refusal_of o l).number ≡ 0 → ⊥
-refused o l c e h z = h (ap (λ (r : Refusal). r.number) (refusal_told o l c e) ∙ z)
+-- a check that refuses tells the record's refusal
+pub refused : (o : ℕ) (l : List ℕ) (r : Refusal) → Err r ≡ checked_of o l → refusal_of o l ≡ Err r
+refused o l r e = refused_by (accepted_record l) (refusal_of o l) r e

@@ -10,7 +10,7 @@ use lib.Dec.{eqb, ltb}
 use lib.ListN.{length, take, drop}
 use lib.Seq.{take-take, drop-drop}
 use borrow.Author.Tests.{eq-eqb, ne_eqb, lt-ltb, le-ltb, ltb-true, eqb-true}
-use Rattle.modes.proofs.Refusals.{unless_so, unless_not, either_way}
+use Rattle.modes.proofs.Refusals.{by_verdict, unless_so, unless_not, either_way}
 use Rattle.modes.specs.declared.Term.{Term}
 use Rattle.modes.proofs.Digits.{lt_or_ge}
 use Rattle.lent.specs.Bytes.{word_at}
@@ -19,7 +19,9 @@ use Rattle.lent.proofs.NumbersAt.{num_at_below}
 use Rattle.record.specs.Numbers.{numbers}
 use Rattle.record.specs.Terms.{before, Above, Ascending, empty, above}
 use Rattle.record.specs.Layout.{column, count_of, together, terms_in, terms_of}
-use Rattle.record.specs.Refusals.{refusal_of}
+use Rattle.std.specs.Prelude.{Ok}
+use Rattle.modes.specs.Answers.{none as unrefused}
+use Rattle.record.specs.Refusals.{refusal_of, checked_of}
 use Rattle.record.specs.Reading.{Holds}
 use Rattle.record.specs.Counting.{count_if, earlier}
 use Rattle.record.specs.Blocks.{ann_below, block_first, block_past, empty_stretch, stretch, block_of, bytes_in}
@@ -82,12 +84,14 @@ stretch_none n f p e = rw (eq-eqb _ _ e)
 pub stretch_some : (n f p : ℕ) → (f ≡ p → ⊥) → ◌≡◌ {A = Stretch} (record { start = 32 + 8 * n + 8 * f; len = 8 * (p - f) }) (stretch n f p)
 stretch_some n f p h = rw (ne_eqb _ _ h)
 
-pub block_refused : (l : List ℕ) (a : ℕ) → ((refusal_of 1 l).number ≡ 0 → ⊥) → empty_stretch ≡ block_of l a
-block_refused l a h = sym (unless_so (refusal_of 1 l) _ _ h)
+pub block_refused : (l : List ℕ) (a : ℕ) → ((c : Checked) → checked_of 1 l ≡ Ok c → ⊥) → empty_stretch ≡ block_of l a
+block_refused l a h =
+    by_verdict (refusal_of 1 l) (λ z. absurd (h _ (unless_not (refusal_of 1 l) _ _ z)))
+    (λ r e. sym (unless_so (refusal_of 1 l) _ _ r e))
 
 pub block_found : (l : List ℕ) (a : ℕ) (c : Checked) → Accepted 1 l c → (f p : ℕ) → f ≡ count_if (ann_below a) (terms_in l c.terms)
     → p ≡ count_if (ann_below (a + 1)) (terms_in l c.terms) → stretch c.terms f p ≡ block_of l a
-block_found l a c k f p ef ep = rw (ef, ep, k.terms, ap (λ (d : Checked). d.terms) k.is) (sym (unless_not (refusal_of 1 l) _ _ k.number))
+block_found l a c k f p ef ep = rw (ef, ep, k.terms, ap (λ (d : Checked). d.terms) k.is) (sym (unless_not (refusal_of 1 l) _ _ k.fine))
 
 pub block_bounded : (l : List ℕ) (a : ℕ) (c : Checked) → Accepted 1 l c → (f p : ℕ) → f ≡ count_if (ann_below a) (terms_in l c.terms)
     → p ≡ count_if (ann_below (a + 1)) (terms_in l c.terms) → (c.terms ≤ 2048) × (f ≤ p) × (p ≤ c.terms)
@@ -104,9 +108,9 @@ Within l s = s.start + s.len ≤ length l
 pub block_inside : (l : List ℕ) (a : ℕ) → (block_of l a).start + (block_of l a).len ≤ length l
 block_inside l a =
     either_way (refusal_of 1 l) (λ _. empty_stretch) (stretch (count_of l) (block_first l a) (block_past l a)) (Within l) (λ z. go z (eqb (block_first l a) (block_past l a)))
-    (λ h. zero-le)
+    (λ r e. zero-le)
   where
-    go : (refusal_of 1 l).number ≡ 0 → (d : Bool)
+    go : refusal_of 1 l ≡ unrefused → (d : Bool)
         → Within l (cond d empty_stretch (record { start = 32 + 8 * count_of l + 8 * block_first l a; len = 8 * (block_past l a - block_first l a) }))
     go z true = zero-le
     go z false =
@@ -167,7 +171,7 @@ stretch_bytes l n f p e h k = go (eqb f p) refl
         ∙ column_take (λ t. t.cre) (p - f) (drop f (terms_in l n)))
 
 -- THE BLOCK. Of an accepted record it is the creations of exactly the terms with that annihilation word, in their order
-pub block_words : (l : List ℕ) (a : ℕ) → Small l → (refusal_of 1 l).number ≡ 0 → bytes_in (block_of l a) l ≡ column (λ t. t.cre) (having a (terms_of l))
+pub block_words : (l : List ℕ) (a : ℕ) → Small l → refusal_of 1 l ≡ unrefused → bytes_in (block_of l a) l ≡ column (λ t. t.cre) (having a (terms_of l))
 block_words l a small e =
     let size = (accepted_laid 1 l e).size in
     let whole = creations_read l small (count_of l) (omega arith) in

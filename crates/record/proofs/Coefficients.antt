@@ -10,6 +10,7 @@ use borrow.Author.Tests.{eq-eqb, ne_eqb}
 use Rattle.modes.specs.Sums.{sum_of}
 use Rattle.modes.proofs.Sums.{cancel, sum_cons}
 use Rattle.modes.specs.declared.Term.{Term}
+use Rattle.modes.specs.Answers.{none as unrefused}
 use Rattle.modes.specs.Every.{Every, none, more}
 use Rattle.lent.proofs.RowLaws.{term_of}
 use Rattle.record.specs.Terms.{before, Above, Ascending, empty, above}
@@ -68,7 +69,7 @@ same_terms (t ∷ ts) (u ∷ us) (above h s) (above k r) (more n ns) (more m ms)
         (sym (sum_cons (coeff_in c a) t ts) ∙ e c a ∙ sum_cons (coeff_in c a) u us ∙ ap (λ (x : Term). coeff_in c a x +ℤ coeff_of c a us) (sym z))))
 
 -- two accepted records on one number of modes with the same coefficients are the same bytes
-pub same_record : (o p : ℕ) (k l : List ℕ) → Small k → Small l → (refusal_of o k).number ≡ 0 → (refusal_of p l).number ≡ 0
+pub same_record : (o p : ℕ) (k l : List ℕ) → Small k → Small l → refusal_of o k ≡ unrefused → refusal_of p l ≡ unrefused
     → modes_of k ≡ modes_of l → ((c a : ℕ) → coeff_of c a (terms_of k) ≡ coeff_of c a (terms_of l)) → k ≡ l
 same_record o p k l sk sl ek el m e =
     let x = accepted_canonical o k ek in

@@ -9,6 +9,9 @@ use native.Mathlib.Omega.{arith}
 use lib.ListN.{length, take, drop, set, length-set}
 use lib.Seq.{ext_get_or, get_or-drop, get_or-set_same, get_or-set_other, take-suc-set, take_all, drop-nil, take-nil, take-append-add, drop-append-add}
 use Rattle.modes.specs.declared.Term.{Term}
+use Rattle.std.specs.Prelude.{Result, Ok}
+use Rattle.modes.specs.declared.Refusal.{Refusal}
+use Rattle.modes.specs.declared.Written.{Written}
 use Rattle.modes.specs.Answers.{wrote}
 use Rattle.lent.specs.Bytes.{bytes, put, zeros}
 use Rattle.lent.specs.Rows.{Fit}
@@ -80,9 +83,12 @@ unfolding put
 put_front l bs = rw (zero-add (length bs))
 
 -- the header in front of them, and zeros past them
+abbrev filled : ℕ → ℕ → Result Written Refusal
+filled branches len = Ok (wrote len branches)
+
 pub finished : (out one two : List ℕ) (m n branches : ℕ) → Small out → Holds out n → one ≡ put out 0 (header m n)
     → two ≡ take (record_length n) one ++ zeros (length one - record_length n)
-    → Gives (filled_output (length out) branches (encode m (terms_in out n))) (wrote (record_length n) branches) two
+    → Gives (filled_output (length out) branches (encode m (terms_in out n))) (Ok (wrote (record_length n) branches)) two
 finished out one two m n branches small room e1 e2 =
     let ts = terms_in out n in
     let size : length (encode m ts) ≡ record_length n = length_encode m ts ∙ ap record_length (length_terms out n) in
@@ -91,7 +97,7 @@ finished out one two m n branches small room e1 e2 =
     let front : take (record_length n) one ≡ encode m ts =
     ap₂ take (ap (λ (x : ℕ). x + 24 * n) (sym h)) (e1 ∙ put_front out (header m n)) ∙ take-append-add (header m n) _ (24 * n)
     ∙ ap₂ (λ (x : ℕ) (y : List ℕ). header m x ++ y) (sym (length_terms out n)) (ap (λ (x : ℕ). take (24 * n) (drop x out)) h ∙ sym (columns_read out small n room)) in
-    record { answer = ap (λ (k : ℕ). wrote k branches) (sym size); bytes = e2 ∙ rw (front, long, size) }
+    record { answer = ap (filled branches) (sym size); bytes = e2 ∙ rw (front, long, size) }
 
 -- ---- parts of a column
 

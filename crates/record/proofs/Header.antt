@@ -8,8 +8,7 @@ use lib.Dec.{eqb, leb}
 use lib.ListN.{length, get_or}
 use borrow.Author.Tests.{le-leb, lt-leb, eqb-true, leb-true}
 use Rattle.modes.specs.Spaces.{space_of, is_made}
-use Rattle.modes.specs.declared.MadeSpace.{MadeSpace}
-use Rattle.modes.specs.declared.MadeSpace.TheVariants.{Made, Refused}
+use Rattle.std.specs.Prelude.{Some, None}
 use Rattle.modes.proofs.Bools.{and_l, and_r}
 use Rattle.record.specs.Numbers.{numbers, same_numbers}
 use Rattle.record.specs.Layout.{fields, modes_of, count_of, laid_out, record_length, total_of, good_header}
@@ -26,7 +25,7 @@ pub made : (m : ℕ) → is_made (space_of m) ≡ true → (1 ≤ m) × (m ≤ 6
 made m e =
     let both = go (leb 1 m && leb m 64) e in (leb-true 1 m (and_l (leb 1 m) (leb m 64) both), leb-true m 64 (and_r (leb 1 m) (leb m 64) both))
   where
-    go : (b : Bool) → is_made (cond b (Made (record { count = m })) Refused) ≡ true → b ≡ true
+    go : (b : Bool) → is_made (cond b (Some (record { count = m })) None) ≡ true → b ≡ true
     go true q = refl
     go false q = q
 
@@ -52,15 +51,15 @@ laid l e =
     }
 
 module _ (l : List ℕ) where
-  pub no_space : space_of (modes_of l) ≡ Refused → false ≡ good_header l
+  pub no_space : is_made (space_of (modes_of l)) ≡ false → false ≡ good_header l
   no_space h = rw h
 
   pub too_many : 2048 < count_of l → false ≡ good_header l
   too_many h = simp (lt-leb _ _ h, and-false)
 
-  pub header_decides : (b : Bool) (m : MadeSpace) → m ≡ space_of (modes_of l) → is_made m ≡ true → count_of l ≤ 2048
+  pub header_decides : (b : Bool) → is_made (space_of (modes_of l)) ≡ true → count_of l ≤ 2048
       → b ≡ same_numbers (numbers 4 l 0 8) (fields (modes_of l) (count_of l)) → b ≡ good_header l
-  header_decides b m e y few same = rw (← e, y, le-leb _ _ few) same
+  header_decides b y few same = rw (y, le-leb _ _ few) same
 
   -- a good header tells 32 bytes at least
   pub too_short : length l < 32 → false ≡ laid_out l

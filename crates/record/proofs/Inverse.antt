@@ -149,10 +149,10 @@ module _ (m : ℕ) (ts : List Term) (k : Canonical m ts) where
       begins (u ∷ us) = refl
 
 -- encoding what was decoded
-pub encode_decode : (o : ℕ) (l : List ℕ) → Small l → (refusal_of o l).number ≡ 0 → encode (modes_of l) (terms_of l) ≡ l
+pub encode_decode : (o : ℕ) (l : List ℕ) → Small l → refusal_of o l ≡ unrefused → encode (modes_of l) (terms_of l) ≡ l
 encode_decode o l small e = encode_read l small (accepted_laid o l e)
 
 -- two accepted records with the same modes and the same terms are the same bytes
-pub same_bytes : (o p : ℕ) (k l : List ℕ) → Small k → Small l → (refusal_of o k).number ≡ 0 → (refusal_of p l).number ≡ 0
+pub same_bytes : (o p : ℕ) (k l : List ℕ) → Small k → Small l → refusal_of o k ≡ unrefused → refusal_of p l ≡ unrefused
     → modes_of k ≡ modes_of l → terms_of k ≡ terms_of l → k ≡ l
 same_bytes o p k l sk sl ek el m t = sym (encode_decode o k sk ek) ∙ ap₂ encode m t ∙ encode_decode p l sl el

@@ -9,7 +9,8 @@ use borrow.Author.Tests.{leb-true}
 use Rattle.modes.specs.declared.Term.{Term}
 use Rattle.modes.specs.declared.Refusal.{Refusal}
 use Rattle.modes.specs.declared.Written.{Written}
-use Rattle.modes.specs.Answers.{refusal, none}
+use Rattle.std.specs.Prelude.{Result, Ok, Err}
+use Rattle.modes.specs.Answers.{Verdict, none, wrote}
 use Rattle.lent.specs.Bytes.{zeros}
 use Rattle.lent.specs.Outputs.{Output, refused_output, filled_output, Gives}
 use Rattle.record.specs.Layout.{encode, modes_of, terms_of}
@@ -17,46 +18,50 @@ use Rattle.modes.specs.Refusals.{or_else, need}
 use Rattle.record.specs.Refusals.{refusal_of}
 use Rattle.record.specs.Canonical.{Canonical}
 use Rattle.record.specs.Outputs.{record_output}
-use Rattle.modes.proofs.Refusals.{neither, first_refuses, second_refuses, neither_refuses, not_refused, needed}
+use Rattle.modes.proofs.Refusals.{neither, first_refuses, second_refuses, neither_refuses, either_way, needed}
 use Rattle.record.proofs.Inverse.{decode_modes, decode_terms, encode_accepted}
 
 -- a bound whose refusal is not given is kept
-pub bound_kept : (x y k : ℕ) → (need (leb x y) (refusal k 0 0)).number ≡ 0 → (k ≡ 0 → ⊥) → x ≤ y
-bound_kept x y k z h = leb-true x y (needed (leb x y) (refusal k 0 0) h z)
+pub bound_kept : (x y : ℕ) (r : Refusal) → need (leb x y) r ≡ none → x ≤ y
+bound_kept x y r z = leb-true x y (needed (leb x y) r z)
 
 -- ---- each way out of a call that is refused by earlier, or else by later
 
-module _ (room branches : ℕ) (earlier later : Refusal) (m : ℕ) (ts : List Term) where
-  pub refused_earlier : (earlier.number ≡ 0 → ⊥) → refused_output room earlier ≡ record_output room branches (or_else earlier later) m ts
-  refused_earlier h = first_refuses earlier later (refused_output room) _ h
+module _ (room branches : ℕ) (earlier later : Verdict) (m : ℕ) (ts : List Term) where
+  pub refused_earlier : (r : Refusal) → earlier ≡ Err r → refused_output room r ≡ record_output room branches (or_else earlier later) m ts
+  refused_earlier r e = first_refuses earlier later (refused_output room) _ r e
 
-  module _ (fine : earlier ≡ none) (late : Refusal) (is : late ≡ later) where
-    pub refused_late : (late.number ≡ 0 → ⊥) → refused_output room late ≡ record_output room branches (or_else earlier later) m ts
-    refused_late h = rw (fine, ← is) (second_refuses none late (refused_output room) _ refl h)
+  module _ (fine : earlier ≡ none) where
+    pub refused_late : (r : Refusal) → Err r ≡ later → refused_output room r ≡ record_output room branches (or_else earlier later) m ts
+    refused_late r e = second_refuses earlier later (refused_output room) _ fine r (sym e)
 
-    pub delivers : late.number ≡ 0 → filled_output room branches (encode m ts) ≡ record_output room branches (or_else earlier later) m ts
-    delivers h = rw (fine, ← is) (neither_refuses none late (refused_output room) _ refl h)
+    pub delivers : (x : Unit {0}) → Ok x ≡ later → filled_output room branches (encode m ts) ≡ record_output room branches (or_else earlier later) m ts
+    delivers x e = neither_refuses earlier later (refused_output room) _ fine (sym e)
 
-pub gives_as : {o q : Output} {r : Written} {x : List ℕ} → o ≡ q → Gives o r x → Gives q r x
+pub gives_as : {o q : Output} {r : Result Written Refusal} {x : List ℕ} → o ≡ q → Gives o r x → Gives q r x
 gives_as {o} {q} {r} {x} e g = subst (λ (y : Output). Gives y r x) e g
 
 -- ---- a call that is not refused
 
-module _ (room branches : ℕ) (earlier later : Refusal) (m : ℕ) (ts : List Term) (r : Written) (after : List ℕ)
-    (g : Gives (record_output room branches (or_else earlier later) m ts) r after) (z : r.refusal.number ≡ 0) where
-  given : ((or_else earlier later).number ≡ 0) × (record_output room branches (or_else earlier later) m ts ≡ filled_output room branches (encode m ts))
-  given =
-      not_refused (or_else earlier later) (refused_output room) _ (λ o. o.answer.refusal) refl _ refl
-      (ap (λ (w : Written). w.refusal.number) (sym g.answer) ∙ z)
+written_len : (r : Written) (len branches : ℕ) → ◌≡◌ {A = Result Written Refusal} (Ok r) (Ok (wrote len branches)) → r.len ≡ len
+written_len r len branches e = let is : r ≡ wrote len branches = cc in ap (λ (w : Written). w.len) is
 
-  pub none_refused : (earlier.number ≡ 0) × (later.number ≡ 0)
+module _ (room branches : ℕ) (earlier later : Verdict) (m : ℕ) (ts : List Term) (r : Written) (after : List ℕ)
+    (g : Gives (record_output room branches (or_else earlier later) m ts) (Ok r) after) where
+  given : (or_else earlier later ≡ none) × (record_output room branches (or_else earlier later) m ts ≡ filled_output room branches (encode m ts))
+  given =
+      either_way (or_else earlier later) (refused_output room) (filled_output room branches (encode m ts))
+      (λ o. Ok r ≡ o.answer → (or_else earlier later ≡ none) × (o ≡ filled_output room branches (encode m ts)))
+      (λ z e. (z, refl)) (λ f q e. cc) g.answer
+
+  pub none_refused : (earlier ≡ none) × (later ≡ none)
   none_refused = neither earlier later given.0
 
   -- the bytes of the answer's length are the record
   pub output_record : take r.len after ≡ encode m ts
   output_record =
       let bytes : after ≡ encode m ts ++ zeros (room - length (encode m ts)) = g.bytes ∙ ap (λ (o : Output). o.bytes) given.1 in
-      let len : r.len ≡ length (encode m ts) = ap (λ (w : Written). w.len) (g.answer ∙ ap (λ (o : Output). o.answer) given.1) in
+      let len : r.len ≡ length (encode m ts) = written_len r (length (encode m ts)) branches (g.answer ∙ ap (λ (o : Output). o.answer) given.1) in
       ap (take r.len) bytes ∙ take_at (encode m ts) _ r.len (sym len)
 
   -- THE OUTPUT OF A CALL. Where the terms are a canonical form, the record is accepted, and its modes and terms are these

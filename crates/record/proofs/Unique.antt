@@ -9,22 +9,25 @@ use Rattle.modes.specs.declared.Term.{Term}
 use Rattle.modes.specs.declared.Written.{Written}
 use Rattle.modes.proofs.Unique.{one}
 use Rattle.lent.specs.Outputs.{filled_output, Gives}
-use Rattle.lent.proofs.Outputs.{gives_one}
+use Rattle.lent.proofs.Outputs.{written_one}
 use Rattle.places.specs.declared.Places.{Places}
-use Rattle.record.specs.Terms.{before}
+use Rattle.std.specs.Prelude.{Option}
+use Rattle.record.specs.Terms.{before, follows}
 use Rattle.record.specs.Layout.{encode, terms_in, record_length, total_of, modes_of, count_of, laid_out, column_places}
 use Rattle.record.specs.Refusals.{checked_of}
 use Rattle.record.specs.Reading.{At}
 use Rattle.record.specs.Weights.{heavier_by}
 use Rattle.record.specs.Blocks.{block_of, bytes_in}
 use Rattle.record.specs.Counting.{count_if, earlier}
+use Rattle.std.specs.Prelude.{Result, Ok}
+use Rattle.modes.specs.declared.Refusal.{Refusal}
 use Rattle.record.specs.declared.Checked.{Checked}
 use Rattle.record.specs.declared.Stretch.{Stretch}
 
 pub one_total : (l : List ℕ) (r s : ℕ) → (r ≡ total_of l) × (r < 2 ^ 32) → (s ≡ total_of l) × (s < 2 ^ 32) → r ≡ s
 one_total l r s p q = one p.0 q.0
 
-pub one_check : (o : ℕ) (l : List ℕ) (r s : Checked) → r ≡ checked_of o l → s ≡ checked_of o l → r ≡ s
+pub one_check : (o : ℕ) (l : List ℕ) (r s : Result Checked Refusal) → r ≡ checked_of o l → s ≡ checked_of o l → r ≡ s
 one_check o l r s = one
 
 pub one_modes : (l : List ℕ) (r s : ℕ) → r ≡ modes_of l → s ≡ modes_of l → r ≡ s
@@ -49,6 +52,9 @@ one_term l n i r s p q = let e : ◌≡◌ {A = List Term} (r ∷ drop (i + 1) (
 pub one_order : (t u : Term) (r s : Bool) → r ≡ before t u → s ≡ before t u → r ≡ s
 one_order t u r s = one
 
+pub one_follows : (last : Option Term) (t : Term) (r s : Bool) → r ≡ follows last t → s ≡ follows last t → r ≡ s
+one_follows last t r s = one
+
 pub one_count_before : (l : List ℕ) (n : ℕ) (t : Term) (r s : ℕ) → r ≡ count_if (earlier t) (terms_in l n) → s ≡ count_if (earlier t) (terms_in l n) → r ≡ s
 one_count_before l n t r s = one
 
@@ -63,9 +69,9 @@ pub one_put : (out : List ℕ) (n k : ℕ) (t : Term) (x y : List ℕ) → terms
     → terms_in x n ≡ terms_in y n
 one_put out n k t x y = one
 
-pub one_finish : (out : List ℕ) (m n branches : ℕ) (r s : Written) (x y : List ℕ) → Gives (filled_output (length out) branches (encode m (terms_in out n))) r x
-    → Gives (filled_output (length out) branches (encode m (terms_in out n))) s y → (r ≡ s) × (x ≡ y)
-one_finish out m n branches r s x y p q = gives_one p q
+pub one_finish : (out : List ℕ) (m n branches : ℕ) (r s : Written) (x y : List ℕ) → Gives (filled_output (length out) branches (encode m (terms_in out n))) (Ok r) x
+    → Gives (filled_output (length out) branches (encode m (terms_in out n))) (Ok s) y → (r ≡ s) × (x ≡ y)
+one_finish out m n branches r s x y p q = written_one p q
 
 pub one_stretch : (l : List ℕ) (a : ℕ) (r s : Stretch) → r ≡ block_of l a → s ≡ block_of l a → r ≡ s
 one_stretch l a r s = one

@@ -1,11 +1,16 @@
 -- Terms: their order and their weight.
-use Rattle.std.specs.Prelude.{ℕ, ◌+◌, ◌≡◌, Bool, true, ◌&&◌, ◌||◌, List, [], ◌∷◌, eqb, ltb, nat_abs}
+use Rattle.std.specs.Prelude.{ℕ, ◌+◌, ◌≡◌, Option, Some, None, Bool, true, ◌&&◌, ◌||◌, List, [], ◌∷◌, eqb, ltb, nat_abs}
 use Rattle.modes.specs.declared.Term.{Term}
 use Rattle.modes.specs.Every.{Every}
 
 -- t stands before u: by annihilations, then by creations
 unfoldable pub before : Term → Term → Bool
 before t u = ltb t.ann u.ann || (eqb t.ann u.ann && ltb t.cre u.cre)
+
+-- may t stand after the last term, if there is one
+abbrev pub follows : Option Term → Term → Bool
+follows None t = true
+follows (Some u) t = before u t
 
 -- t stands before every term of ts
 abbrev pub Above : Term → List Term → Type 0

@@ -1,13 +1,12 @@
 // The record: its check, the reading and writing of its terms, and the stretch of one annihilation word.
 #![tactic(auto)]
 
-ghost use Rattle.std.specs.Prelude.{◌≡◌, true, false, ◌||◌, ◌+◌, ◌*◌, ◌-◌, ◌≤◌, ◌<◌, ◌^◌, nat_abs, length, set};
+ghost use Rattle.std.specs.Prelude.{◌≡◌, Ok, true, false, ◌+◌, ◌*◌, ◌-◌, ◌≤◌, ◌<◌, ◌^◌, nat_abs, length, set};
 ghost use Rattle.lent.specs.Bytes.{put};
-ghost use Rattle.modes.specs.Answers.{refusal};
 ghost use Rattle.record.specs.Numbers.{numbers, same_numbers};
-ghost use Rattle.record.specs.Terms.{before, Ascending};
+ghost use Rattle.record.specs.Terms.{before, follows, Ascending};
 ghost use Rattle.record.specs.Layout.{fields, header, modes_of, count_of, terms_in, laid_out, record_length, encode, good_header, column_places, total_of};
-ghost use Rattle.record.specs.Refusals.{term_refusal, refused_record, checked_of};
+ghost use Rattle.record.specs.Refusals.{term_refusal, checked_of};
 ghost use Rattle.record.specs.Reading.{At, Holds};
 ghost use Rattle.lent.specs.Outputs.{Gives, filled_output};
 ghost use Rattle.modes.specs.Counts.{count};
@@ -15,7 +14,7 @@ ghost use Rattle.record.specs.Weights.{heavier_by};
 ghost use Rattle.record.specs.Counting.{count_if, earlier};
 ghost use Rattle.record.specs.Blocks.{ann_below, block_of, bytes_in};
 
-use modes::{MadeSpace, ModeSpace, Refusal, Term, Written};
+use modes::{ModeSpace, Reason, Refusal, Term, Written};
 use places::Places;
 
 // The bytes of a header, and of the longest record.
@@ -26,26 +25,12 @@ pub const LONGEST: usize = 32 + 24 * modes::MOST_TERMS;
 // The largest weight that a record may have.
 pub const HEAVIEST: u64 = 1_152_921_504_606_846_976;
 
-// What the check found: the refusal, or none with the record's modes, terms and weight, which are 0 after a refusal.
+// What the check found of a record: its modes, its number of terms, and their weight.
 #[derive(Clone, Copy)]
 pub struct Checked {
-    pub refusal: Refusal,
     pub modes: u64,
     pub terms: usize,
     pub weight: u64,
-}
-
-impl Checked {
-    pub fn refused(refusal: Refusal) -> Checked
-        ensures { result ≡ refused_record refusal }
-    {
-        Checked {
-            refusal,
-            modes: 0,
-            terms: 0,
-            weight: 0,
-        }
-    }
 }
 
 // Where a stretch of bytes begins, and how many there are.
@@ -53,13 +38,6 @@ impl Checked {
 pub struct Stretch {
     pub start: usize,
     pub len: usize,
-}
-
-// The answer to a question about a record; false where it is refused.
-#[derive(Clone, Copy)]
-pub struct Tested {
-    pub refusal: Refusal,
-    pub holds: bool,
 }
 
 // How many bytes a record of n terms has.
@@ -130,9 +108,9 @@ fn good_header(s: &[u8]) -> bool
 {
     let m = lent::half(s, 4);
     let n = lent::half(s, 8);
-    let MadeSpace::Made(_) = ModeSpace::from_count(m as u64) else {
+    if ModeSpace::from_count(m as u64).is_none() {
         return false;
-    };
+    }
     if modes::MOST_TERMS < n {
         return false;
     }
@@ -190,13 +168,13 @@ pub fn is_before(t: Term, u: Term) -> bool
 }
 
 // May t stand after `last`? Anything may stand first.
-pub fn follows(first: bool, last: Term, t: Term) -> bool
-    ensures { result ≡ (first || before last t) }
+pub fn follows(last: Option<Term>, t: Term) -> bool
+    ensures { result ≡ follows last t }
 {
-    if first {
-        return true;
+    match last {
+        None => true,
+        Some(u) => is_before(u, t),
     }
-    is_before(last, t)
 }
 
 // How far the term's coefficient is from zero.
@@ -207,31 +185,37 @@ pub fn size(t: Term) -> u64
 }
 
 // Numbers 2, 3 and 4 of the term t at `place`; `up` says that it is the first or above the one before it.
-pub fn term_refusal(space: ModeSpace, operand: u64, place: u64, up: bool, t: Term) -> Refusal
+pub fn term_refusal(
+    space: ModeSpace,
+    operand: u64,
+    place: u64,
+    up: bool,
+    t: Term,
+) -> Result<(), Refusal>
     ensures { result ≡ term_refusal operand space.count place up t }
 {
     if !modes::is_inside(space, t.cre, t.ann) {
-        return Refusal {
-            number: 2,
+        return Err(Refusal {
+            reason: Reason::WordOutside,
             operand,
             place,
-        };
+        });
     }
     if !up {
-        return Refusal {
-            number: 3,
+        return Err(Refusal {
+            reason: Reason::OutOfOrder,
             operand,
             place,
-        };
+        });
     }
     if size(t) == 0 {
-        return Refusal {
-            number: 4,
+        return Err(Refusal {
+            reason: Reason::ZeroCoeff,
             operand,
             place,
-        };
+        });
     }
-    Refusal::NONE
+    Ok(())
 }
 
 // The weight w with k more. Once it is above the ceiling it is no longer summed, so that it never wraps.
@@ -243,53 +227,41 @@ pub fn heavier(w: u64, k: u64) -> u64
 }
 
 // The check of n terms on m modes, once the header is right.
-fn check_terms(s: &[u8], operand: u64, m: u64, n: usize) -> Checked
+fn check_terms(s: &[u8], operand: u64, m: u64, n: usize) -> Result<Checked, Refusal>
     requires { (laid_out s.now ≡ true) × (m ≡ modes_of s.now) × (n ≡ count_of s.now) }
     ensures { result ≡ checked_of operand s.now }
 {
     let space = ModeSpace { count: m };
-    let mut first = true;
-    let mut last = Term {
-        cre: 0,
-        ann: 0,
-        coeff: 0,
-    };
+    let mut last: Option<Term> = None;
     let mut w = 0;
-    let mut i = 0;
-    while i < n {
+    for i in 0..n {
         let t = read_term(s, n, i);
-        let up = follows(first, last, t);
-        let r = term_refusal(space, operand, i as u64, up, t);
-        if r.number != 0 {
-            return Checked::refused(r);
-        }
+        let up = follows(last, t);
+        term_refusal(space, operand, i as u64, up, t)?;
         w = heavier(w, size(t));
-        first = false;
-        last = t;
-        i += 1;
+        last = Some(t);
     }
     if HEAVIEST < w {
-        return Checked::refused(Refusal {
-            number: 5,
+        return Err(Refusal {
+            reason: Reason::TooHeavy,
             operand,
             place: 0,
         });
     }
-    Checked {
-        refusal: Refusal::NONE,
+    Ok(Checked {
         modes: m,
         terms: n,
         weight: w,
-    }
+    })
 }
 
 // Are the bytes a record? The answer for any bytes, with the operand that the caller names.
-pub fn check(s: &[u8], operand: u64) -> Checked
+pub fn check(s: &[u8], operand: u64) -> Result<Checked, Refusal>
     ensures { result ≡ checked_of operand s.now }
 {
     if !laid_out(s) {
-        return Checked::refused(Refusal {
-            number: 1,
+        return Err(Refusal {
+            reason: Reason::Malformed,
             operand,
             place: 0,
         });
@@ -325,16 +297,12 @@ pub fn put_term(out: &mut [u8], n: usize, k: usize, t: Term)
 // The n terms that were put there become the record on m modes: the header in front of them, and zeros past them.
 pub fn finish(out: &mut [u8], m: u64, n: usize, branches: u64) -> Written
     requires { Holds out.old n × (n ≤ 2048) }
-    ensures { Gives (filled_output (length out.old) branches (encode m (terms_in out.old n))) result out.new }
+    ensures { Gives (filled_output (length out.old) branches (encode m (terms_in out.old n))) (Ok result) out.new }
 {
     put_header(out, m, n);
     let len = length_of(n);
     lent::wipe_from(out, len);
-    Written {
-        refusal: Refusal::NONE,
-        len,
-        branches,
-    }
+    Written { len, branches }
 }
 
 // How many of the n terms stand before t, found by halving.
@@ -387,10 +355,9 @@ fn count_up_to(s: &[u8], n: usize, ann: u64) -> usize
 pub fn block_bounds(s: &[u8], ann: u64) -> Stretch
     ensures { result ≡ block_of s.now ann }
 {
-    let c = check(s, 1);
-    if c.refusal.number != 0 {
+    let Ok(c) = check(s, 1) else {
         return Stretch { start: 0, len: 0 };
-    }
+    };
     let n = c.terms;
     let first = count_below(s, n, ann);
     let past = count_up_to(s, n, ann);

@@ -1,30 +1,30 @@
 -- `record::block_bounds` meets its contract.
 use Prim.Native.Nat.{◌≤◌}
-use Rattle.record.proofs.Accepted.{accepted, refused, readable}
+use Rattle.record.proofs.Accepted.{accepted, readable}
 use Rattle.record.proofs.Blocks.{block_bounded, stretch_none, stretch_some, block_refused, block_found}
 use mathlib.Core.Path.{◌∙◌}
 use native.Mathlib.Omega.{arith}
 use Rattle.record.proofs.block_bounds.Goals as goal
 
 bounded : (c : goal.Else-first-past)
-    → (c.check-c.result.terms ≤ 2048) × (c.count_below-first.result ≤ c.count_up_to-past.result) ×
-    (c.count_up_to-past.result ≤ c.check-c.result.terms)
+    → (c.in-Ok.c.terms ≤ 2048) × (c.count_below-first.result ≤ c.count_up_to-past.result) ×
+    (c.count_up_to-past.result ≤ c.in-Ok.c.terms)
 bounded c =
-    block_bounded _ _ _ (accepted 1 _ _ c.check-c.ensures c.if-c-ne0.false) _ _
+    block_bounded _ _ _ (accepted 1 _ _ c.in-Ok.ensures) _ _
     c.count_below-first.ensures c.count_up_to-past.ensures
 
-pub returns-then-c-ne0 : goal.returns-then-c-ne0
-returns-then-c-ne0 c = block_refused _ _ (refused 1 _ _ c.check-c.ensures c.if-c-ne0.true)
+pub returns-in_default : goal.returns-in_default
+returns-in_default c = block_refused _ _ (λ k e. c.in_default.not-Ok k (c.check.ensures ∙ e))
 
 pub count_below-first-requires : goal.count_below-first-requires
-count_below-first-requires c = readable 1 _ _ (accepted 1 _ _ c.check-c.ensures c.if-c-ne0.false)
+count_below-first-requires c = readable 1 _ _ (accepted 1 _ _ c.in-Ok.ensures)
 
 pub count_up_to-past-requires : goal.count_up_to-past-requires
-count_up_to-past-requires c = readable 1 _ _ (accepted 1 _ _ c.check-c.ensures c.if-c-ne0.false)
+count_up_to-past-requires c = readable 1 _ _ (accepted 1 _ _ c.in-Ok.ensures)
 
 pub returns-then-first-past : goal.returns-then-first-past
 returns-then-first-past c =
-    stretch_none _ _ _ c.if-first-past.true ∙ block_found _ _ _ (accepted 1 _ _ c.check-c.ensures c.if-c-ne0.false) _ _ c.count_below-first.ensures
+    stretch_none _ _ _ c.if-first-past.true ∙ block_found _ _ _ (accepted 1 _ _ c.in-Ok.ensures) _ _ c.count_below-first.ensures
     c.count_up_to-past.ensures
 
 pub overflow_mul-result : goal.overflow_mul-result
@@ -47,5 +47,5 @@ overflow_mul-result-3 c = omega (arith, bounded c)
 
 pub returns : goal.returns
 returns c =
-    stretch_some _ _ _ c.if-first-past.false ∙ block_found _ _ _ (accepted 1 _ _ c.check-c.ensures c.if-c-ne0.false) _ _ c.count_below-first.ensures
+    stretch_some _ _ _ c.if-first-past.false ∙ block_found _ _ _ (accepted 1 _ _ c.in-Ok.ensures) _ _ c.count_below-first.ensures
     c.count_up_to-past.ensures

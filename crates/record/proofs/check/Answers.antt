@@ -6,7 +6,7 @@ use Rattle.record.proofs.Checking.{refused_is, not_laid}
 use Rattle.record.proofs.check.Goals as goal
 
 pub returns-then-not-laid_out : goal.returns-then-not-laid_out
-returns-then-not-laid_out c = c.refused.ensures ∙ refused_is _ _ _ (not_laid _ _ (sym c.laid_out.ensures ∙ c.if-not-laid_out.true)) (λ z. absurd (omega arith))
+returns-then-not-laid_out c = refused_is _ _ _ (not_laid _ _ (sym c.laid_out.ensures ∙ c.if-not-laid_out.true))
 
 pub half-m-requires : goal.half-m-requires
 half-m-requires c = omega (arith, (laid _ (sym c.laid_out.ensures ∙ c.if-not-laid_out.false)).size)
