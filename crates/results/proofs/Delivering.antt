@@ -7,7 +7,7 @@ use native.Mathlib.Omega.{arith}
 use lib.ListN.{length, take, set}
 use lib.IntN.{nat_abs}
 use Rattle.modes.specs.declared.Term.{Term}
-use Rattle.modes.specs.declared.Refusal.{Refusal}
+use Rattle.modes.specs.Answers.{Verdict}
 use Rattle.lent.specs.Rows.{row_at, rows_at}
 use Rattle.lent.proofs.RowLaws.{rows_more, rows_next, length_rows_at}
 use Rattle.record.specs.Terms.{weight}
@@ -58,7 +58,7 @@ module _ (l : List ℕ) (n i : ℕ) (out : List ℕ) (g : Placing l n i out) whe
   placing_ends h k = let all : i ≡ n = omega arith in sym (terms_all out n i k) ∙ g ∙ ap (rows_at l 0) all
 
 -- 10, 9 and 11 by what was weighed as far as the ceiling
-pub verdict_is : (room : ℕ) (l : List ℕ) (n : ℕ) (t : Tally) → Tallied (rows_at l 0 n) t → (late : Refusal) → late ≡ result_refusal room n t.weight
+pub verdict_is : (room : ℕ) (l : List ℕ) (n : ℕ) (t : Tally) → Tallied (rows_at l 0 n) t → (late : Verdict) → late ≡ result_refusal room n t.weight
     → late ≡ result_refusal room (length (rows_at l 0 n)) (weight (rows_at l 0 n))
 verdict_is room l n t g late e =
     e ∙ ap (λ (k : ℕ). result_refusal room k t.weight) (sym (length_rows_at l 0 n) ∙ sym g.terms) ∙ verdict_same room (rows_at l 0 n) t g

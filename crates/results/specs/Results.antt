@@ -1,37 +1,33 @@
 -- Calls that write a record: what refuses two operands and a result, and the whole output.
-use Rattle.std.specs.Prelude.{ℕ, ◌^◌, List, eqb, leb, length}
+use Rattle.std.specs.Prelude.{ℕ, ◌^◌, List, Result, eqb, leb, length}
 use Rattle.modes.specs.declared.Term.{Term}
 use Rattle.modes.specs.declared.Refusal.{Refusal}
-use Rattle.modes.specs.Answers.{none, modes_differ, result_too_heavy, too_many_terms}
+use Rattle.modes.specs.Answers.{Verdict, modes_differ, result_too_heavy, too_many_terms}
 use Rattle.lent.specs.Outputs.{Output}
 use Rattle.record.specs.Terms.{weight}
 use Rattle.record.specs.Layout.{modes_of, count_of, terms_of}
-use Rattle.modes.specs.Refusals.{need, or_else, unless}
+use Rattle.modes.specs.Refusals.{need, or_else, answered}
 use Rattle.record.specs.Operands.{Operand, read_as}
 use Rattle.record.specs.Outputs.{room_refusal, record_output}
 use Rattle.results.specs.declared.Opened.{Opened}
 
 -- the first operand fully, the second likewise, then 6
-abbrev pub operands_refusal : Operand → Operand → Refusal
+abbrev pub operands_refusal : Operand → Operand → Verdict
 operands_refusal a b = or_else a.refusal (or_else b.refusal (need (eqb a.modes b.modes) modes_differ))
 
 -- a result of n terms and weight w, for an output of room bytes: 10, 9, 11
-unfoldable pub result_refusal : ℕ → ℕ → ℕ → Refusal
+unfoldable pub result_refusal : ℕ → ℕ → ℕ → Verdict
 result_refusal room n w =
     or_else (need (leb n 2048) too_many_terms) (or_else (need (leb w (2 ^ 60)) result_too_heavy) (room_refusal room n))
 
 -- a call whose result is ts, where earlier is what refuses it before the result is looked at
-abbrev pub result_of : ℕ → ℕ → Refusal → ℕ → List Term → Output
+abbrev pub result_of : ℕ → ℕ → Verdict → ℕ → List Term → Output
 result_of room branches earlier m ts = record_output room branches (or_else earlier (result_refusal room (length ts) (weight ts))) m ts
 
--- what is known of two records once they are checked: all 0 after a refusal
-abbrev pub shut : Refusal → Opened
-shut r = record { refusal = r; modes = 0; left = 0; right = 0; left_weight = 0; right_weight = 0 }
-
+-- what is known of two records once they are checked
 abbrev pub standing : List ℕ → List ℕ → Opened
 standing a b =
     record {
-      refusal = none;
       modes = modes_of a;
       left = count_of a;
       right = count_of b;
@@ -39,5 +35,5 @@ standing a b =
       right_weight = weight (terms_of b);
     }
 
-abbrev pub opened_of : List ℕ → List ℕ → Opened
-opened_of a b = unless (operands_refusal (read_as 1 a) (read_as 2 b)) shut (standing a b)
+abbrev pub opened_of : List ℕ → List ℕ → Result Opened Refusal
+opened_of a b = answered (operands_refusal (read_as 1 a) (read_as 2 b)) (standing a b)
