@@ -61,10 +61,8 @@ fn join(work: &mut [u8], n: usize) -> usize
     }
     let row = lent::get_row(work, 0);
     let mut o = Open { place: 0, row };
-    let mut i = 1;
-    while i < n {
+    for i in 1..n {
         o = meet(work, i, o);
-        i += 1;
     }
     let row = o.row;
     close(work, o.place, row)
