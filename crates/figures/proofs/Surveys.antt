@@ -1,6 +1,6 @@
 -- The walk that finds what the terms have in common.
 use mathlib.Core.Path.{◌≡◌, refl, sym, ap, ◌∙◌}
-use mathlib.Core.Bool.{Bool, true, false, ◌&&◌, ◌||◌, and-true}
+use mathlib.Core.Bool.{Bool, true, ◌&&◌, ◌||◌, and-true, and_assoc, or_assoc}
 use mathlib.Core.List.{List, [], ◌∷◌}
 use Prim.Native.Nat.{ℕ, max}
 use native.Mathlib.Omega.{arith}
@@ -19,18 +19,10 @@ use Rattle.figures.specs.declared.Figures.{Figures}
 use Rattle.record.specs.declared.Checked.{Checked}
 use Rattle.record.proofs.Accepted.{Accepted, refused, refusal_told}
 
-and_assoc : (a b c : Bool) → (a && b) && c ≡ a && (b && c)
-and_assoc true b c = refl
-and_assoc false b c = refl
-
-or_assoc_bool : (a b c : Bool) → (a || b) || c ≡ a || (b || c)
-or_assoc_bool true b c = refl
-or_assoc_bool false b c = refl
-
-or_assoc : (a b c : ℕ) → bit_or (bit_or a b) c ≡ bit_or a (bit_or b c)
-or_assoc a b c =
+union_assoc : (a b c : ℕ) → bit_or (bit_or a b) c ≡ bit_or a (bit_or b c)
+union_assoc a b c =
     ext _ _ (λ p.
-    bit_of_or (bit_or a b) c p ∙ ap (λ (x : Bool). x || bit c p) (bit_of_or a b p) ∙ or_assoc_bool (bit a p) (bit b p) (bit c p)
+    bit_of_or (bit_or a b) c p ∙ ap (λ (x : Bool). x || bit c p) (bit_of_or a b p) ∙ or_assoc (bit a p) (bit b p) (bit c p)
     ∙ sym (bit_of_or a (bit_or b c) p ∙ ap (λ (x : Bool). bit a p || x) (bit_of_or b c p)))
 
 -- what is found so far, with what is left, makes the whole
@@ -47,9 +39,9 @@ pub survey_goes : (ts left rest : List Term) (t : Term) → left ≡ t ∷ rest 
 unfolding conserving largest_rank all_modes
 survey_goes ts left rest t e c d r s m g ed es =
     record {
-      conserving = rw ed (and_assoc c (conserves t) (conserving rest) ∙ sym (ap (λ (us : List Term). c && conserving us) e) ∙ g.conserving);
-      rank = rw es (top ∙ sym (ap (λ (us : List Term). max r (largest_rank us)) e) ∙ g.rank);
-      modes = or_assoc m (bit_or t.cre t.ann) (all_modes rest) ∙ sym (ap (λ (us : List Term). bit_or m (all_modes us)) e) ∙ g.modes;
+      conserving = rw (ed, and_assoc) (rw e at g.conserving);
+      rank = rw es (top ∙ (rw e at g.rank));
+      modes = rw union_assoc (rw e at g.modes);
     }
   where
     top : max (max r (rank_of t)) (largest_rank rest) ≡ max r (max (rank_of t) (largest_rank rest))
@@ -59,9 +51,9 @@ pub survey_ends : (ts left : List Term) → left ≡ [] → (c : Bool) (r m : �
     → ◌≡◌ {A = Figures} (record { refusal = none; conserving = c; rank = r; modes = m }) (figures_in ts)
 unfolding conserving largest_rank all_modes
 survey_ends ts left e c r m g =
-    let a : c ≡ conserving ts = sym (and-true c) ∙ sym (ap (λ (us : List Term). c && conserving us) e) ∙ g.conserving in
-    let b : r ≡ largest_rank ts = sym (max-zero r) ∙ sym (ap (λ (us : List Term). max r (largest_rank us)) e) ∙ g.rank in
-    let d : m ≡ all_modes ts = sym (or_zero_r m) ∙ sym (ap (λ (us : List Term). bit_or m (all_modes us)) e) ∙ g.modes in
+    let a : c ≡ conserving ts = sym (and-true c) ∙ (rw e at g.conserving) in
+    let b : r ≡ largest_rank ts = sym (max-zero r) ∙ (rw e at g.rank) in
+    let d : m ≡ all_modes ts = sym (or_zero_r m) ∙ (rw e at g.modes) in
     rw (a, b, d)
 
 pub survey_refused : (l : List ℕ) (c : Checked) → c ≡ checked_of 1 l → (c.refusal.number ≡ 0 → ⊥) → no_figures c.refusal ≡ figures_of (read_as 1 l)

@@ -27,6 +27,7 @@ fn larger_count(x: u64, y: u64) -> u64
 }
 
 // The rank of a term: the larger of its creation and annihilation counts.
+#[tactic(auto, unfolding(crate::specs::Figures::rank_of))]
 pub fn rank(t: Term) -> u64
     ensures { (result ≡ rank_of t) × (result ≤ 64) }
 {
@@ -43,7 +44,7 @@ fn is_conserving(t: Term) -> bool
 pub fn larger(x: u64, y: u64) -> u64
     ensures { result ≡ max x y }
 {
-    if x < y { y } else { x }
+    x.max(y)
 }
 
 // What the terms of a record have in common: conservation, the largest rank, and all modes.
@@ -63,13 +64,11 @@ fn survey_terms(s: &[u8], n: usize) -> Figures
     let mut conserving = true;
     let mut largest = 0;
     let mut modes = 0;
-    let mut i = 0;
-    while i < n {
+    for i in 0..n {
         let t = record::read_term(s, n, i);
-        conserving = conserving & is_conserving(t);
+        conserving &= is_conserving(t);
         largest = larger(largest, rank(t));
-        modes = modes | (t.cre | t.ann);
-        i += 1;
+        modes |= t.cre | t.ann;
     }
     Figures {
         refusal: Refusal::NONE,

@@ -10,6 +10,7 @@ use Rattle.record.specs.Layout.{laid_out, modes_of, count_of, terms_in}
 use Rattle.record.specs.Refusals.{terms_refusal, refused_record, checked_of}
 use Rattle.record.specs.declared.Checked.{Checked}
 use Rattle.record.proofs.Checking.{term_refused, heavy_refused, accepted_is, weight_none}
+use Rattle.record.proofs.Reading.{none_left}
 use Rattle.tally.specs.Walks.{is_light, Seeing, Refuses}
 use Rattle.tally.specs.declared.Seen.{Seen}
 use Rattle.tally.proofs.Seeing.{next_refuses}
@@ -25,15 +26,18 @@ module _ (l : List ℕ) (m n : ℕ) (yes : laid_out l ≡ true) (em : m ≡ mode
   stopped_is r h some = term_refused 1 l m n yes em en r (next_refuses m (terms_in l n) s i g r h some) some
 
   -- behind the last term
-  module _ (done : drop i (terms_in l n) ≡ []) where
+  module _ (done : n ≤ i) where
+    none_left_here : drop i (terms_in l n) ≡ []
+    none_left_here = none_left l n i done
+
     fine : terms_refusal 1 m 0 (λ _. true) (terms_in l n) ≡ none
-    fine = g.rest ∙ none_left_refused m i _ _ done
+    fine = g.rest ∙ none_left_refused m i _ _ none_left_here
 
     pub light_is : is_light s ≡ true → ◌≡◌ {A = Checked} (record { refusal = none; modes = m; terms = n; weight = s.weight }) (checked_of 1 l)
     light_is e =
         let exact : s.bits < 2 ^ 61 = ltb-true _ _ (and_l (ltb s.bits (2 ^ 61)) _ e) in
         let light : s.weight ≤ 2 ^ 60 = leb-true _ _ (and_r (ltb s.bits (2 ^ 61)) _ e) in
-        accepted_is 1 l m n yes em en fine s.weight (omega (arith, g.exact exact, weight_none _ done)) light
+        accepted_is 1 l m n yes em en fine s.weight (omega (arith, g.exact exact, weight_none _ none_left_here)) light
 
     pub heavy_is : is_light s ≡ false → refused_record (refusal 5 1 0) ≡ checked_of 1 l
     heavy_is e = heavy_refused 1 l m n yes em en fine (⊎_elim (λ h. h) (λ h. absurd (true≢false (sym (light h) ∙ e))) (lt_or_ge (2 ^ 60) (weight (terms_in l n))))

@@ -1,5 +1,5 @@
 -- What is seen of the terms, from one to the next.
-use Rattle.std.proofs.Common.{◌≡◌, ℕ, suc, ◌+◌, ◌%◌, ◌^◌, ◌<◌, ◌≤◌, Bool, true, false, not, ◌&&◌, eqb, leb, List, ◌∷◌, drop, nat_abs, sym, refl, ap, ◌∙◌, true≢false, mod-eq_of_lt, add-one, arith, lt-ltb, ne_eqb, le-leb, leb-true}
+use Rattle.std.proofs.Common.{◌≡◌, ℕ, suc, ◌+◌, ◌%◌, ◌^◌, ◌<◌, ◌≤◌, Bool, true, false, not, ◌&&◌, None, eqb, leb, List, ◌∷◌, drop, nat_abs, sym, refl, ap, ◌∙◌, true≢false, mod-eq_of_lt, add-one, arith, lt-ltb, ne_eqb, le-leb, leb-true}
 use lib.Bits.{bit_or, or_lt, or_add_and, and_le_l, and_le_r}
 use borrow.Author.Tests.{eqb-false, not-true}
 use Rattle.modes.specs.declared.Term.{Term}
@@ -25,10 +25,6 @@ or_left x y = omega (arith, or_add_and x y, and_le_r x y)
 or_right : (x y : ℕ) → y ≤ bit_or x y
 or_right x y = omega (arith, or_add_and x y, and_le_l x y)
 
-pub seen_is : (s : Seen) (t : Term) (k w : ℕ) → w ≡ (s.weight + k) % 2 ^ 64
-    → ◌≡◌ {A = Seen} (record { first = false; last = t; weight = w; bits = bit_or s.bits w }) (seen_with t k s)
-seen_is s t k w e = rw e
-
 -- the refusal of terms, of which t is the first
 front : (m i : ℕ) (up : Term → Bool) (ts us : List Term) (t : Term) → ts ≡ t ∷ us
     → terms_refusal 1 m i up ts ≡ or_else (term_refusal 1 m i (up t) t) (terms_refusal 1 m (suc i) (before t) us)
@@ -38,8 +34,8 @@ front m i up ts us t e = rw e
 -- ---- from term to term
 
 module _ (m : ℕ) (ts : List Term) where
-  pub seeing_starts : (last : Term) → Seeing m ts (record { first = true; last = last; weight = 0; bits = 0 }) 0
-  seeing_starts last = record { rest = refl; held = omega arith; exact = λ h. omega arith; low = λ h. omega arith }
+  pub seeing_starts : Seeing m ts (record { last = None; weight = 0; bits = 0 }) 0
+  seeing_starts = record { rest = refl; held = omega arith; exact = λ h. omega arith; low = λ h. omega arith }
 
   module _ (s : Seen) (i : ℕ) (g : Seeing m ts s i) where
     -- what refuses the next term refuses them all

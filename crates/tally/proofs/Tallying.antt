@@ -1,5 +1,5 @@
 -- The terms and the weights of the ranks, counted while the terms are looked at.
-use Rattle.std.proofs.Common.{◌≡◌, ℕ, ◌+◌, ◌/◌, ◌%◌, ◌^◌, ◌<◌, ◌≤◌, false, List, [], length, get_or, drop, set, nat_abs, sym, refl, ap, ◌∙◌, div-add-mod', arith, length-set}
+use Rattle.std.proofs.Common.{◌≡◌, ℕ, ◌+◌, ◌/◌, ◌%◌, ◌^◌, ◌<◌, ◌≤◌, true, false, List, [], length, get_or, drop, set, nat_abs, sym, refl, ap, ◌∙◌, div-add-mod', arith, length-set}
 use Rattle.modes.specs.declared.Term.{Term}
 use Rattle.modes.specs.declared.Refusal.{Refusal}
 use Rattle.modes.specs.Answers.{refusal}
@@ -8,8 +8,10 @@ use Rattle.record.specs.Reading.{At}
 use Rattle.record.specs.Layout.{laid_out, terms_in, count_of}
 use Rattle.record.specs.Refusals.{refused_record, checked_of}
 use Rattle.record.specs.declared.Checked.{Checked}
+use Rattle.record.proofs.Header.{laid}
 use Rattle.record.proofs.Accepted.{accepted}
 use Rattle.record.proofs.Checking.{refused_is, not_laid}
+use Rattle.record.proofs.Reading.{none_left}
 use Rattle.figures.specs.Figures.{rank_of}
 use Rattle.tally.specs.Tallies.{none_yet, Tallied, Tallies}
 use Rattle.tally.specs.Walks.{Wraps, Tallying}
@@ -70,13 +72,13 @@ module _ (ts : List Term) where
 
 -- what is found of the bytes l once all terms were looked at
 pub all_found : (l : List ℕ) (c : Checked) → c ≡ checked_of 1 l → (n : ℕ) → n ≡ count_of l → (i : ℕ) (terms sizes : List ℕ)
-    → Tallying (terms_in l n) i terms sizes → drop i (terms_in l n) ≡ [] → Tallies l c terms sizes
+    → Tallying (terms_in l n) i terms sizes → n ≤ i → Tallies l c terms sizes
 all_found l c e n count i terms sizes g done =
     record {
       checked = e;
       tallied = λ z.
           let light : weight (terms_in l n) ≤ 2 ^ 60 = rw count (accepted 1 l c e z).canonical.light in
-          rw (← count) (tally_ends (terms_in l n) i terms sizes g light done);
+          rw (← count) (tally_ends (terms_in l n) i terms sizes g light (none_left l n i done));
     }
 
 -- or once it is refused: nothing is told of the columns then
@@ -92,3 +94,7 @@ header_found l c e bad terms sizes =
     let refused = refused_is 1 l (refusal 1 1 0) (not_laid 1 l bad) (λ z. absurd (omega arith)) in
     let told : c.refusal.number ≡ 1 = ap (λ (x : Checked). x.refusal.number) (e ∙ sym refused) in
     refused_found l c e (λ z. absurd (omega (arith, told, z))) terms sizes
+
+-- and a laid out one has its header
+pub header_there : (l : List ℕ) → laid_out l ≡ true → 32 ≤ length l
+header_there l good = omega (arith, (laid l good).size)

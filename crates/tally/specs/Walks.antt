@@ -1,5 +1,5 @@
 -- What is known between two terms of the walk over a record. For inner functions only.
-use Rattle.std.specs.Prelude.{◌≡◌, ℕ, ◌+◌, ◌*◌, ◌%◌, ◌^◌, ◌<◌, ◌≤◌, Bool, true, false, not, ◌&&◌, ◌||◌, List, length, drop, ◌==◌, ◌≢◌, bit_or, nat_le, nat_lt, slice_index}
+use Rattle.std.specs.Prelude.{◌≡◌, ℕ, ◌+◌, ◌*◌, ◌%◌, ◌^◌, ◌<◌, ◌≤◌, Bool, true, not, ◌&&◌, Option, None, Some, List, length, drop, ◌==◌, ◌≢◌, bit_or, nat_le, nat_lt, slice_index}
 use Rattle.modes.specs.declared.Term.{Term}
 use Rattle.modes.specs.declared.Refusal.{Refusal}
 use Rattle.record.specs.Terms.{before, weight}
@@ -10,8 +10,12 @@ use Rattle.tally.specs.declared.Seen.{Seen}
 use Rattle.tally.specs.declared.Reached.{Reached}
 
 -- t is the first, or above the one before it
+abbrev pub is_above : Option Term → Term → Bool
+is_above None t = true
+is_above (Some last) t = before last t
+
 abbrev pub comes_after : Seen → Term → Bool
-comes_after s t = s.first || before s.last t
+comes_after s = is_above s.last
 
 -- a term of the magnitude k may come next: it is not zero, neither of its words is above `top`, and it comes after the one before it
 abbrev pub takes_next : ℕ → Term → ℕ → Seen → Bool
@@ -19,7 +23,7 @@ takes_next top t k s = not (k == 0) && (nat_le t.cre top && (nat_le t.ann top &&
 
 -- a term more, of the magnitude k: the sum in 64 bits, and the bits of the sum
 abbrev pub seen_with : Term → ℕ → Seen → Seen
-seen_with t k s = let weight = (s.weight + k) % 2 ^ 64 in record { first = false; last = t; weight = weight; bits = bit_or s.bits weight }
+seen_with t k s = let weight = (s.weight + k) % 2 ^ 64 in record { last = Some t; weight = weight; bits = bit_or s.bits weight }
 
 -- no sum wrapped, and the last is no larger than a record's weight may be
 abbrev pub is_light : Seen → Bool

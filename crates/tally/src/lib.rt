@@ -6,7 +6,7 @@ ghost use Rattle.std.specs.Prelude.{◌≡◌, ◌+◌, ◌^◌, ◌<◌, ◌≤
 ghost use Rattle.record.specs.Layout.{laid_out, modes_of, count_of, terms_in};
 ghost use Rattle.record.specs.Reading.{Holds};
 ghost use Rattle.tally.specs.Tallies.{none_yet, Tallies};
-ghost use Rattle.tally.specs.Walks.{takes_next, seen_with, is_light, Walked, Refuses};
+ghost use Rattle.tally.specs.Walks.{comes_after, takes_next, seen_with, is_light, Walked, Refuses};
 
 use modes::{ModeSpace, Refusal, Term};
 use record::Checked;
@@ -18,13 +18,22 @@ const TOO_HIGH: u64 = 2_305_843_009_213_693_952;
 // test finds whether it wrapped.
 #[derive(Clone, Copy)]
 struct Seen {
-    first: bool,
-    last: Term,
+    last: Option<Term>,
     weight: u64,
     bits: u64,
 }
 
 impl Seen {
+    // May t stand after the last one? Anything may stand first.
+    fn precedes(self, t: Term) -> bool
+        ensures { result ≡ comes_after self t }
+    {
+        match self.last {
+            None => true,
+            Some(last) => record::is_before(last, t),
+        }
+    }
+
     // May t, of the magnitude k, come next? `top` is the word of all modes: to hold each word against it is quicker than a shift.
     fn takes(self, top: u64, t: Term, k: u64) -> bool
         ensures { result ≡ takes_next top t k self }
@@ -38,7 +47,7 @@ impl Seen {
         if top < t.ann {
             return false;
         }
-        record::follows(self.first, self.last, t)
+        self.precedes(t)
     }
 
     // a term more, of the magnitude k
@@ -47,8 +56,7 @@ impl Seen {
     {
         let weight = std::num::wrapping_add_u64(self.weight, k);
         Seen {
-            first: false,
-            last: t,
+            last: Some(t),
             weight,
             bits: self.bits | weight,
         }
@@ -87,17 +95,11 @@ fn walk(s: &[u8], m: u64, n: usize, terms: &mut [u64; 65], weights: &mut [u64; 6
 {
     let top = all_modes(m);
     let mut seen = Seen {
-        first: true,
-        last: Term {
-            cre: 0,
-            ann: 0,
-            coeff: 0,
-        },
+        last: None,
         weight: 0,
         bits: 0,
     };
-    let mut i = 0;
-    while i < n {
+    for i in 0..n {
         let t = record::read_term(s, n, i);
         let k = record::size(t);
         if !seen.takes(top, t, k) {
@@ -107,9 +109,8 @@ fn walk(s: &[u8], m: u64, n: usize, terms: &mut [u64; 65], weights: &mut [u64; 6
         terms[at] += 1;
         weights[at] = std::num::wrapping_add_u64(weights[at], k);
         seen = seen.with(t, k);
-        i += 1;
     }
-    Reached { seen, place: i }
+    Reached { seen, place: n }
 }
 
 // What refuses the i-th of n terms, after what was seen.
@@ -118,7 +119,7 @@ fn refusal_at(s: &[u8], m: u64, n: usize, seen: Seen, i: usize) -> Refusal
     ensures { Refuses m (terms_in s.now n) seen i result }
 {
     let t = record::read_term(s, n, i);
-    let up = record::follows(seen.first, seen.last, t);
+    let up = seen.precedes(t);
     record::term_refusal(ModeSpace { count: m }, 1, i as u64, up, t)
 }
 
@@ -155,6 +156,7 @@ fn tally_terms(
 }
 
 // The check of a record, and the terms and weights of its ranks, counted from zeros. They tell nothing where it is refused.
+#[tactic(auto, using(crate::proofs::Tallying::header_there))]
 pub fn tally_record(s: &[u8], terms: &mut [u64; 65], weights: &mut [u64; 65]) -> Checked
     requires { (terms.old ≡ none_yet) × (weights.old ≡ none_yet) }
     ensures { Tallies s.now result terms.new weights.new }

@@ -1,20 +1,14 @@
 -- `figures::survey_terms` meets its contract. The invariant: what was found, with what is left, makes the whole.
-use borrow.Author.Rules.{rules}
 use mathlib.Core.Path.{ap, ◌∙◌}
 use Prim.Native.Nat.{max}
 use Rattle.record.proofs.Reading.{none_left}
-use Rattle.figures.proofs.Surveys.{survey_starts, survey_goes, survey_ends}
+use Rattle.figures.proofs.Surveys.{survey_goes, survey_ends}
 use Rattle.figures.proofs.survey_terms.Goals as goal
 
-pub loop-i-init : goal.loop-i-init
-loop-i-init c = (search rules, survey_starts _)
-
 pub loop-i-preserved : goal.loop-i-preserved
-loop-i-preserved c = (
-  search rules,
-  survey_goes _ _ _ _ c.read_term-t.ensures _ _ _ _ _ c.loop-i.invariant.1 c.is_conserving-conserving.ensures
-      (c.larger-largest.ensures ∙ ap (max c.loop-i.largest) c.rank.ensures.0),
-)
+loop-i-preserved c =
+    survey_goes _ _ _ _ c.read_term-t.ensures _ _ _ _ _ c.loop-i.invariant c.is_conserving-conserving.ensures
+    (c.larger-largest.ensures ∙ ap (max c.loop-i.largest) c.rank.ensures.0)
 
 pub returns : goal.returns
-returns c = survey_ends _ _ (none_left c.args.s.now _ _ c.loop-i-test.false) _ _ _ c.loop-i.invariant.1
+returns c = survey_ends _ _ (none_left c.args.s.now _ _ c.loop-i-test.false) _ _ _ c.loop-i.invariant

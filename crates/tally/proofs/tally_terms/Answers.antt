@@ -1,7 +1,6 @@
 -- `tally::tally_terms` meets its contract.
 use Rattle.std.proofs.Common.{sym, ◌∙◌, arith}
 use Rattle.record.proofs.Header.{laid}
-use Rattle.record.proofs.Reading.{none_left}
 use Rattle.tally.proofs.Ends.{stopped_is, light_is, heavy_is}
 use Rattle.tally.proofs.Tallying.{refusal_found, all_found}
 use Rattle.tally.proofs.tally_terms.Goals as goal
@@ -26,16 +25,14 @@ returns-then-reached-n c =
 
 pub returns-then-not-is_light : goal.returns-then-not-is_light
 returns-then-not-is_light c =
-    let walked = c.walk-reached.ensures in
-    let done = none_left c.args.s.now _ _ c.if-reached-n.false in
+    let seeing = c.walk-reached.ensures.seeing in
     let heavy = sym c.is_light.ensures ∙ c.if-not-is_light.true in
-    let is = heavy_is _ _ _ c.requires.0 c.requires.1 c.requires.2 _ _ walked.seeing done heavy in
+    let is = heavy_is _ _ _ c.requires.0 c.requires.1 c.requires.2 _ _ seeing c.if-reached-n.false heavy in
     refusal_found _ _ is (λ z. absurd (omega (arith, z))) _ c.refused-then-not-is_light.ensures _ _
 
 pub returns : goal.returns
 returns c =
     let walked = c.walk-reached.ensures in
-    let done = none_left c.args.s.now _ _ c.if-reached-n.false in
     let light = sym c.is_light.ensures ∙ c.if-not-is_light.false in
-    let is = light_is _ _ _ c.requires.0 c.requires.1 c.requires.2 _ _ walked.seeing done light in
-    all_found _ _ is _ c.requires.2 _ _ _ walked.tallying done
+    let is = light_is _ _ _ c.requires.0 c.requires.1 c.requires.2 _ _ walked.seeing c.if-reached-n.false light in
+    all_found _ _ is _ c.requires.2 _ _ _ walked.tallying c.if-reached-n.false
