@@ -2,7 +2,6 @@
 #![tactic(auto)]
 
 ghost use Rattle.std.specs.Prelude.{◌≡◌, [], ◌∷◌, length};
-ghost use Rattle.std.specs.Float.Ieee.Scale.{finite};
 ghost use Rattle.modes.specs.Refusals.{first_refusal};
 ghost use Rattle.float_elem.specs.Sums.{joined};
 ghost use Rattle.float_elem.specs.Answers.{told_by};
@@ -31,20 +30,12 @@ pub enum FloatElement {
     Refused(Refusal),
 }
 
-// Neither a NaN nor an infinity: only of these the difference from itself is not zero.
-fn is_finite(x: f64) -> bool
-    ensures { result ≡ finite x }
-{
-    x - x == 0.0
-}
-
+// Neither part is a NaN or an infinity.
+#[tactic(auto, using(crate::proofs::Finite::is_finite_told))]
 fn are_finite(z: Complex64) -> bool
     ensures { result ≡ all_finite (z.re ∷ z.im ∷ []) }
 {
-    if !is_finite(z.re) {
-        return false;
-    }
-    is_finite(z.im)
+    z.re.is_finite() && z.im.is_finite()
 }
 
 // Number 1: the mode count and the lengths of the lists.
@@ -93,8 +84,7 @@ fn check_terms(m: u64, cre: &[u64], ann: &[u64], re: &[f64], im: &[f64]) -> Refu
     ensures { result ≡ first_refusal (term_at m cre.now ann.now (re.now ∷ im.now ∷ [])) (length cre.now) }
 {
     let space = ModeSpace { count: m };
-    let mut i = 0;
-    while i < cre.len() {
+    for i in 0..cre.len() {
         let c = Complex64 {
             re: re[i],
             im: im[i],
@@ -103,7 +93,6 @@ fn check_terms(m: u64, cre: &[u64], ann: &[u64], re: &[f64], im: &[f64]) -> Refu
         if r.number != 0 {
             return r;
         }
-        i += 1;
     }
     Refusal::NONE
 }
@@ -137,9 +126,7 @@ fn sum_terms(cre: &[u64], ann: &[u64], re: &[f64], im: &[f64], bra: u64, ket: u6
     ensures { told_by result ≡ summed bra ket cre.now ann.now (re.now ∷ im.now ∷ []) }
 {
     let mut sum = Complex64::ZERO;
-    let mut left = cre.len();
-    while 0 < left {
-        let i = cre.len() - left;
+    for i in 0..cre.len() {
         let created = cre[i];
         let annihilated = ann[i];
         if created ^ annihilated == bra ^ ket {
@@ -156,7 +143,6 @@ fn sum_terms(cre: &[u64], ann: &[u64], re: &[f64], im: &[f64], bra: u64, ket: u6
                 });
             }
         }
-        left -= 1;
     }
     FloatElement::Complex(sum)
 }

@@ -50,15 +50,13 @@ fn next_between(s: &[u8], n: usize, from: usize, bra: u64, ket: u64) -> usize
     requires { Holds s.now n × (from ≤ n) }
     ensures { (result ≡ from + passed bra ket (drop from (terms_in s.now n))) × (result ≤ n) × (element bra ket (drop result (terms_in s.now n)) ≡ element bra ket (drop from (terms_in s.now n))) }
 {
-    let mut i = from;
-    while i < n {
+    for i in from..n {
         let t = record::read_term(s, n, i);
         if t.cre ^ t.ann == bra ^ ket {
             return i;
         }
-        i += 1;
     }
-    i
+    n
 }
 
 // What n terms add. The sum stays within their weight, so that it never wraps.
@@ -127,13 +125,11 @@ impl Projected {
 fn outside_refusal(space: ModeSpace, basis: &[u64]) -> Refusal
     ensures { result ≡ first_refusal (outside_at space.count basis.now) (length basis.now) }
 {
-    let mut i = 0;
-    while i < basis.len() {
-        let r = modes::word_refusal(space, 3, i as u64, basis[i]);
+    for (i, word) in basis.iter().enumerate() {
+        let r = modes::word_refusal(space, 3, i as u64, *word);
         if r.number != 0 {
             return r;
         }
-        i += 1;
     }
     Refusal::NONE
 }
@@ -143,23 +139,14 @@ fn stands_earlier(basis: &[u64], i: usize) -> bool
     requires { i < length basis.now }
     ensures { result ≡ stands (get_or basis.now i 0) (take i basis.now) }
 {
-    let w = basis[i];
-    let mut j = 0;
-    while j < i {
-        if basis[j] == w {
-            return true;
-        }
-        j += 1;
-    }
-    false
+    basis[..i].contains(&basis[i])
 }
 
 // Number 14 of the first basis word that stands earlier too.
 fn repeat_refusal(basis: &[u64]) -> Refusal
     ensures { result ≡ first_refusal (repeat_at basis.now) (length basis.now) }
 {
-    let mut i = 0;
-    while i < basis.len() {
+    for i in 0..basis.len() {
         if stands_earlier(basis, i) {
             return Refusal {
                 number: 14,
@@ -167,7 +154,6 @@ fn repeat_refusal(basis: &[u64]) -> Refusal
                 place: i as u64,
             };
         }
-        i += 1;
     }
     Refusal::NONE
 }
@@ -196,12 +182,8 @@ fn row_of(a: &[u8], n: usize, basis: &[u64], bra: u64) -> Row
     ensures { result ≡ row_of (terms_in a.now n) basis.now bra }
 {
     let mut entries = [0i64; 8];
-    let mut j = 0;
-    while j < basis.len() {
-        let ket = basis[j];
-        let e = sum_parts(a, n, bra, ket);
-        entries[j] = e;
-        j += 1;
+    for (j, ket) in basis.iter().enumerate() {
+        entries[j] = sum_parts(a, n, bra, *ket);
     }
     Row { entries }
 }
@@ -212,12 +194,8 @@ fn project(a: &[u8], n: usize, basis: &[u64]) -> Projected
     ensures { (result.refusal ≡ none) × (result.rows ≡ matrix_of (terms_in a.now n) basis.now) }
 {
     let mut rows = [Row { entries: [0i64; 8] }; 8];
-    let mut i = 0;
-    while i < basis.len() {
-        let bra = basis[i];
-        let row = row_of(a, n, basis, bra);
-        rows[i] = row;
-        i += 1;
+    for (i, bra) in basis.iter().enumerate() {
+        rows[i] = row_of(a, n, basis, *bra);
     }
     Projected {
         refusal: Refusal::NONE,

@@ -1,20 +1,19 @@
 -- `float_elem::check_terms` meets its contract: no term so far is refused.
 use native.Mathlib.Omega.{arith}
-use borrow.Author.Rules.{rules}
 use Rattle.modes.proofs.FirstRefusals.{first_starts, first_goes, first_ends, first_stays}
 use Rattle.float_elem.proofs.Checking.{no_number}
 use Rattle.float_elem.proofs.check_terms.Goals as goal
 
 pub loop-i-init : goal.loop-i-init
-loop-i-init c = (search rules, first_starts _)
+loop-i-init c = first_starts _
 
 pub returns-then-r-ne0 : goal.returns-then-r-ne0
 returns-then-r-ne0 c =
-    first_stays _ _ c.loop-i.invariant.1 _ c.term_refusal-r.ensures c.if-r-ne0.true _ c.loop-i-test.true
+    first_stays _ _ c.loop-i.invariant _ c.term_refusal-r.ensures c.if-r-ne0.true _ c.loop-i-test.true
 
 pub loop-i-preserved : goal.loop-i-preserved
 loop-i-preserved c =
-    (search rules, first_goes _ _ c.loop-i.invariant.1 (no_number _ _ _ _ _ _ c.term_refusal-r.ensures c.if-r-ne0.false))
+    first_goes _ _ c.loop-i.invariant (no_number _ _ _ _ _ _ c.term_refusal-r.ensures c.if-r-ne0.false)
 
 pub returns : goal.returns
-returns c = first_ends _ _ c.loop-i.invariant.1 _ (omega arith)
+returns c = first_ends _ _ c.loop-i.invariant _ (omega arith)

@@ -1,10 +1,6 @@
-use Prim.Native.Nat.{◌-◌, ◌≤◌}
 use Rattle.record.specs.Layout.{terms_in}
 use Rattle.mat_elem.proofs.Summing.{Passing}
 use Rattle.mat_elem.proofs.next_between.Given as goal
 
 abbrev pub invariant-loop-i : goal.invariant-loop-i
-invariant-loop-i l = (l.i ≤ l.n) × Passing l.bra l.ket (terms_in l.s l.n) l.from l.i
-
-abbrev pub decreases-loop-i : goal.decreases-loop-i
-decreases-loop-i l = l.n - l.i
+invariant-loop-i l = Passing l.bra l.ket (terms_in l.s l.n) l.from l.i

@@ -3,21 +3,20 @@ use native.Mathlib.Omega.{arith}
 use lib.ListN.{get_or}
 use Rattle.modes.proofs.Spaces.{word_none}
 use Rattle.modes.proofs.FirstRefusals.{first_starts, first_goes, first_ends, first_stays}
-use borrow.Author.Rules.{rules}
 use Rattle.mat_elem.proofs.outside_refusal.Goals as goal
 
 pub loop-i-init : goal.loop-i-init
-loop-i-init c = (search rules, first_starts _)
+loop-i-init c = first_starts _
 
 pub returns-then-r-ne0 : goal.returns-then-r-ne0
 returns-then-r-ne0 c =
-    first_stays _ _ c.loop-i.invariant.1 _ c.word_refusal-r.ensures c.if-r-ne0.true _ c.loop-i-test.true
+    first_stays _ _ c.loop-i.invariant _ c.word_refusal-r.ensures c.if-r-ne0.true _ c.loop-i-test.true
 
 pub loop-i-preserved : goal.loop-i-preserved
 loop-i-preserved c =
     let a = c.args in
     let i = c.loop-i.i in
-    (search rules, first_goes _ i c.loop-i.invariant.1 (word_none a.space.count 3 i (get_or a.basis.now i 0) _ c.word_refusal-r.ensures c.if-r-ne0.false))
+    first_goes _ i c.loop-i.invariant (word_none a.space.count 3 i (get_or a.basis.now i 0) _ c.word_refusal-r.ensures c.if-r-ne0.false)
 
 pub returns : goal.returns
-returns c = first_ends _ _ c.loop-i.invariant.1 _ (omega arith)
+returns c = first_ends _ _ c.loop-i.invariant _ (omega arith)

@@ -2,22 +2,15 @@
 use mathlib.Core.Path.{refl}
 use Rattle.mat_elem.specs.Matrix.{matrix_of}
 use Rattle.mat_elem.proofs.Filling.{fills_word, filled_words}
-use borrow.Author.Rules.{rules}
 use Rattle.mat_elem.proofs.project.Goals as goal
-
-pub loop-i-init : goal.loop-i-init
-loop-i-init c = (search rules, refl)
-
-pub row_of-row-requires : goal.row_of-row-requires
-row_of-row-requires c = c.requires
 
 pub loop-i-preserved : goal.loop-i-preserved
 loop-i-preserved c =
     let l = c.loop-i in
-    (search rules, fills_word _ _ c.args.basis.now c.requires.1 l.i l.rows l.invariant.1 _ c.loop-i-test.true c.row_of-row.ensures)
+    fills_word _ _ c.args.basis.now c.requires.1 l.i l.rows l.invariant _ c.loop-i-test.true c.row_of.ensures
 
 pub returns : goal.returns
 unfolding matrix_of
 returns c =
     let l = c.loop-i in
-    (refl, filled_words _ _ c.args.basis.now c.requires.1 l.i l.rows l.invariant.1 l.invariant.0 c.loop-i-test.false)
+    (refl, filled_words _ _ c.args.basis.now c.requires.1 l.i l.rows l.invariant l.auto.i-end c.loop-i-test.false)

@@ -2,21 +2,20 @@
 use mathlib.Core.Path.{sym, ◌∙◌}
 use native.Mathlib.Omega.{arith}
 use Rattle.modes.proofs.FirstRefusals.{first_starts, first_goes, first_ends, first_stays}
-use borrow.Author.Rules.{rules}
 use Rattle.mat_elem.proofs.repeat_refusal.Goals as goal
 
 pub loop-i-init : goal.loop-i-init
-loop-i-init c = (search rules, first_starts _)
+loop-i-init c = first_starts _
 
 pub returns-then-stands_earlier : goal.returns-then-stands_earlier
 returns-then-stands_earlier c =
     let again = sym c.stands_earlier.ensures ∙ c.if-stands_earlier.true in
-    first_stays _ _ c.loop-i.invariant.1 _ (rw again) (λ q. omega arith) _ c.loop-i-test.true
+    first_stays _ _ c.loop-i.invariant _ (rw again) (λ q. omega arith) _ c.loop-i-test.true
 
 pub loop-i-preserved : goal.loop-i-preserved
 loop-i-preserved c =
     let new = sym c.stands_earlier.ensures ∙ c.if-stands_earlier.false in
-    (search rules, first_goes _ _ c.loop-i.invariant.1 (rw new))
+    first_goes _ _ c.loop-i.invariant (rw new)
 
 pub returns : goal.returns
-returns c = first_ends _ _ c.loop-i.invariant.1 _ (omega arith)
+returns c = first_ends _ _ c.loop-i.invariant _ (omega arith)

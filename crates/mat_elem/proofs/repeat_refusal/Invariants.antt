@@ -1,13 +1,8 @@
 use mathlib.Core.Path.{◌≡◌}
-use Prim.Native.Nat.{◌-◌, ◌≤◌}
-use lib.ListN.{length}
 use Rattle.modes.specs.Answers.{none}
 use Rattle.modes.specs.Refusals.{first_refusal}
 use Rattle.mat_elem.specs.Matrix.{repeat_at}
 use Rattle.mat_elem.proofs.repeat_refusal.Given as goal
 
 abbrev pub invariant-loop-i : goal.invariant-loop-i
-invariant-loop-i l = (l.i ≤ length l.basis) × (first_refusal (repeat_at l.basis) l.i ≡ none)
-
-abbrev pub decreases-loop-i : goal.decreases-loop-i
-decreases-loop-i l = length l.basis - l.i
+invariant-loop-i l = first_refusal (repeat_at l.basis) l.i ≡ none
