@@ -1,16 +1,15 @@
 -- A record is Hermitian exactly if the adjoint of every term is among its terms; and halving finds a term that is among them.
 use mathlib.Core.Path.{◌≡◌, refl, sym, ap, ap₂, ◌∙◌, subst}
-use mathlib.Core.Bool.{Bool, true, false, cond, true≢false}
+use mathlib.Core.Bool.{Bool, true, false, cond, ◌&&◌, true≢false}
 use mathlib.Core.List.{List, [], ◌∷◌, map}
 use mathlib.Core.Logic.{◌⊎◌, inl, inr}
 use Prim.Native.Nat.{ℕ, suc, ◌+◌, ◌≤◌}
 use native.Mathlib.Omega.{arith}
 use lib.Dec.{eqb}
 use lib.IntN.{pos, nat_abs}
-use borrow.Author.Tests.{eqb-true, eqb-false}
-use mir.Syntax.{w64}
-use mir.Val.{SFits, to_z, of_z}
-use mir.Facts.{to_z-of_z}
+use Rattle.std.specs.Bool.{Decides}
+use Rattle.std.specs.Ordering.{int_eq}
+use Rattle.std.proofs.lemmas.Bool.Decides.{Decides-and, Decides-at, Decides-like, Decides-eqb, Decides-int_eq, not_from_Decides}
 use lib.ListN.{length, take, drop, drop_of_length-le}
 use lib.Seq.{take_all}
 use Rattle.modes.specs.declared.Term.{Term}
@@ -97,13 +96,14 @@ same_among ts s n e =
 pub tells_no : {P : Type 0} → (P → ⊥) → Tells false P
 tells_no h = record { yes = λ z. absurd (true≢false (sym z)); no = λ z. h }
 
-pub same_words : (t u : Term) → t.ann ≡ u.ann → t.cre ≡ u.cre → SFits w64 t.coeff → SFits w64 u.coeff
-    → Tells (eqb (of_z w64 t.coeff) (of_z w64 u.coeff)) (t ≡ u)
-same_words t u p q f g =
-    record {
-      yes = λ y. term_of p q (sym (to_z-of_z f) ∙ ap (to_z w64) (eqb-true (of_z w64 t.coeff) (of_z w64 u.coeff) y) ∙ to_z-of_z g);
-      no = λ n e. eqb-false (of_z w64 t.coeff) (of_z w64 u.coeff) n (ap (λ (x : Term). of_z w64 x.coeff) e);
-    }
+-- as `==` tells it, field by field
+pub same_words : (t u : Term) (b : Bool) → b ≡ (eqb t.cre u.cre && (eqb t.ann u.ann && int_eq t.coeff u.coeff)) → Tells b (t ≡ u)
+same_words t u b e =
+    let fields = Decides-and _ _ (Decides-eqb t.cre u.cre) (Decides-and _ _ (Decides-eqb t.ann u.ann) (Decides-int_eq t.coeff u.coeff)) in
+    let same : Decides b (t ≡ u) =
+    Decides-at b _ e (Decides-like _ (λ p. term_of p.1.0 p.0 p.1.1)
+    (λ q. (ap (λ (x : Term). x.cre) q, (ap (λ (x : Term). x.ann) q, ap (λ (x : Term). x.coeff) q))) fields) in
+    record { yes = same.0; no = not_from_Decides b same }
 
 -- ---- the walk over the terms
 

@@ -1,5 +1,5 @@
 -- The adjoint terms written one after the other, in the record's order.
-use mathlib.Core.Path.{◌≡◌, refl, sym, ap, ap₂, ◌∙◌}
+use mathlib.Core.Path.{◌≡◌, sym, ap, ap₂, ◌∙◌}
 use mathlib.Core.List.{List, [], ◌∷◌, ◌++◌, map, map-append}
 use Prim.Native.Nat.{ℕ, zero, suc, ◌+◌, ◌≤◌, ◌<◌}
 use native.Mathlib.Omega.{arith}
@@ -32,23 +32,12 @@ take_one_more ts us t i e = let k : i + 1 ≡ suc i = omega arith in rw k (take_
 
 -- ---- the walk: the first i of the n terms in out are the adjoint terms
 
-pub record Filling (n : ℕ) (ts : List Term) (i : ℕ) (out : List ℕ) : Type 0 where
-  pub small : i ≤ n
-  pub is : take i (terms_in out n) ≡ map adjoint_term (take i ts)
-
-pub filling_starts : (n : ℕ) (ts : List Term) (out : List ℕ) → Filling n ts 0 out
-filling_starts n ts out = record { small = omega arith; is = refl }
-
-module _ (n : ℕ) (ts : List Term) (i : ℕ) (out : List ℕ) (g : Filling n ts i out) where
-  pub filling_goes : (t u : Term) (us : List Term) (after : List ℕ) → i < n → drop i ts ≡ t ∷ us → u ≡ adjoint_term t → terms_in after n ≡ set (terms_in out n) i u
-      → Filling n ts (i + 1) after
+module _ (n : ℕ) (ts : List Term) (i : ℕ) (out : List ℕ) (g : take i (terms_in out n) ≡ map adjoint_term (take i ts)) where
+  pub filling_goes : (t u : Term) (us : List Term) (after : List ℕ) → i < n → drop i ts ≡ t ∷ us → u ≡ adjoint_term t
+      → terms_in after n ≡ set (terms_in out n) i u → take (i + 1) (terms_in after n) ≡ map adjoint_term (take (i + 1) ts)
   filling_goes t u us after h e eu ea =
-      record {
-        small = omega arith;
-        is =
-            terms_more out after n i u h ea ∙ ap₂ (λ (vs : List Term) (v : Term). vs ++ (v ∷ [])) g.is eu
-            ∙ sym (ap (map adjoint_term) (take_one_more ts us t i e) ∙ map-append adjoint_term (take i ts) (t ∷ []));
-      }
+      terms_more out after n i u h ea ∙ ap₂ (λ (vs : List Term) (v : Term). vs ++ (v ∷ [])) g eu
+      ∙ sym (ap (map adjoint_term) (take_one_more ts us t i e) ∙ map-append adjoint_term (take i ts) (t ∷ []))
 
   pub filling_ends : length ts ≡ n → n ≤ i → terms_in out n ≡ map adjoint_term ts
-  filling_ends size h = sym (terms_all out n i h) ∙ g.is ∙ ap (map adjoint_term) (take_all i ts (omega (arith, size)))
+  filling_ends size h = sym (terms_all out n i h) ∙ g ∙ ap (map adjoint_term) (take_all i ts (omega (arith, size)))

@@ -47,12 +47,10 @@ fn put_adjoint_terms(a: &[u8], n: usize, out: &mut [u8])
     requires { Holds a.now n × Holds out.old n × Every Negatable (terms_in a.now n) }
     ensures { terms_in out.new n ≡ map adjoint_term (terms_in a.now n) }
 {
-    let mut i = 0;
-    while i < n {
+    for i in 0..n {
         let t = record::read_term(a, n, i);
         let u = adjoint_term(t);
         record::put_term(out, n, i, u);
-        i += 1;
     }
 }
 
@@ -82,19 +80,6 @@ pub fn adjoint(a: &[u8], out: &mut [u8]) -> Written
     write_adjoint(a, c.modes, n, out)
 }
 
-// Are the two one term?
-fn is_same(t: Term, u: Term) -> bool
-    ensures { Tells result (t ≡ u) }
-{
-    if t.ann != u.ann {
-        return false;
-    }
-    if t.cre != u.cre {
-        return false;
-    }
-    t.coeff == u.coeff
-}
-
 // Is t one of the n terms? It can only stand after those before it.
 fn has_term(s: &[u8], n: usize, t: Term) -> bool
     requires { Holds s.now n × Ascending (terms_in s.now n) }
@@ -105,7 +90,7 @@ fn has_term(s: &[u8], n: usize, t: Term) -> bool
         return false;
     }
     let u = record::read_term(s, n, i);
-    is_same(t, u)
+    t == u
 }
 
 // Is the adjoint of every term one of the n terms?
@@ -113,14 +98,12 @@ fn has_adjoints(s: &[u8], n: usize) -> bool
     requires { Holds s.now n × Ascending (terms_in s.now n) × Every Negatable (terms_in s.now n) }
     ensures { Tells result (AdjointsAmong (terms_in s.now n) (terms_in s.now n)) }
 {
-    let mut i = 0;
-    while i < n {
+    for i in 0..n {
         let t = record::read_term(s, n, i);
         let u = adjoint_term(t);
         if !has_term(s, n, u) {
             return false;
         }
-        i += 1;
     }
     true
 }

@@ -20,13 +20,6 @@ pub struct Compared {
     pub ket: u64,
 }
 
-// The term to be named of those gone through, if there is one.
-#[derive(Clone, Copy)]
-struct Found {
-    some: bool,
-    term: Term,
-}
-
 // Is t named rather than u? Fewer annihilations decide, then the lower words.
 fn is_ahead(t: Term, u: Term) -> bool
     ensures { result ≡ ahead t u }
@@ -40,21 +33,15 @@ fn is_ahead(t: Term, u: Term) -> bool
 }
 
 // What is found once t, a term of the difference, is gone through too. A coefficient of zero is no difference.
-fn with_term(f: Found, t: Term) -> Found
-    ensures { result ≡ with_term f t }
+fn with_term(found: Option<Term>, t: Term) -> Option<Term>
+    ensures { result ≡ with_term found t }
 {
     if t.coeff == 0 {
-        return f;
+        return found;
     }
-    if f.some {
-        let u = f.term;
-        if !is_ahead(t, u) {
-            return f;
-        }
-    }
-    Found {
-        some: true,
-        term: t,
+    match found {
+        Some(u) => Some(if is_ahead(t, u) { t } else { u }),
+        None => Some(t),
     }
 }
 
@@ -63,37 +50,29 @@ fn find(a: &[u8], na: usize, b: &[u8], nb: usize) -> Compared
     requires { Sound a.now na × Sound b.now nb }
     ensures { result ≡ named (drop_zeros (onward true a.now na b.now nb 0 0)) }
 {
-    let mut f = Found {
-        some: false,
-        term: Term {
-            cre: 0,
-            ann: 0,
-            coeff: 0,
-        },
-    };
+    let mut found = None;
     let mut i = 0;
     let mut j = 0;
+    // A step takes a term of one record or of both, so no range counts the steps.
     while i + j < na + nb {
         let s = lincomb::next(Sign::MINUS, a, na, i, b, nb, j);
-        let t = s.term;
-        f = with_term(f, t);
+        found = with_term(found, s.term);
         i = s.left;
         j = s.right;
     }
-    let t = f.term;
-    if f.some {
-        return Compared {
+    match found {
+        Some(t) => Compared {
             refusal: Refusal::NONE,
             equal: false,
             bra: t.cre,
             ket: t.ann,
-        };
-    }
-    Compared {
-        refusal: Refusal::NONE,
-        equal: true,
-        bra: 0,
-        ket: 0,
+        },
+        None => Compared {
+            refusal: Refusal::NONE,
+            equal: true,
+            bra: 0,
+            ket: 0,
+        },
     }
 }
 

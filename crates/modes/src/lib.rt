@@ -72,7 +72,7 @@ impl ModeSpace {
 pub const MOST_TERMS: usize = 2048;
 
 // A term of an operator: its creation word, its annihilation word, and its coefficient.
-#[derive(Clone, Copy)]
+#[derive(Clone, Copy, PartialEq, Eq)]
 pub struct Term {
     pub cre: u64,
     pub ann: u64,

@@ -4,17 +4,13 @@ use Rattle.modes.specs.Every.{none}
 use Rattle.record.proofs.Reading.{length_terms}
 use Rattle.adjoint.proofs.Writing.{every_drop}
 use Rattle.adjoint.proofs.Among.{among_goes, among_fails, among_ends}
-use borrow.Author.Rules.{rules}
 use Rattle.adjoint.proofs.has_adjoints.Goals as goal
 
 pub loop-i-init : goal.loop-i-init
-loop-i-init c = (search rules, none)
+loop-i-init c = none
 
 pub adjoint_term-u-requires : goal.adjoint_term-u-requires
 adjoint_term-u-requires c = every_drop _ _ _ c.loop-i.i c.requires.2 c.read_term-t.ensures
-
-pub has_term-requires : goal.has_term-requires
-has_term-requires c = (c.requires.0, c.requires.1)
 
 pub returns-then-not-has_term : goal.returns-then-not-has_term
 returns-then-not-has_term c =
@@ -22,12 +18,10 @@ returns-then-not-has_term c =
     c.has_term.ensures c.if-not-has_term.true
 
 pub loop-i-preserved : goal.loop-i-preserved
-loop-i-preserved c = (
-  search rules,
-  among_goes _ _ c.loop-i.i _ _ _ c.loop-i.invariant.1
-      c.read_term-t.ensures c.adjoint_term-u.ensures c.has_term.ensures c.if-not-has_term.false,
-)
+loop-i-preserved c =
+    among_goes _ _ c.loop-i.i _ _ _ c.loop-i.invariant
+    c.read_term-t.ensures c.adjoint_term-u.ensures c.has_term.ensures c.if-not-has_term.false
 
 pub returns : goal.returns
 returns c =
-    among_ends _ c.loop-i.i (omega (arith, c.loop-i-test.false, length_terms c.args.s.now c.args.n)) c.loop-i.invariant.1
+    among_ends _ c.loop-i.i (omega (arith, c.loop-i-test.false, length_terms c.args.s.now c.args.n)) c.loop-i.invariant

@@ -1,12 +1,9 @@
 use mathlib.Core.Path.{◌≡◌}
-use Prim.Native.Nat.{◌-◌}
-use lib.ListN.{length}
+use mathlib.Core.List.{map}
+use lib.ListN.{take}
 use Rattle.record.specs.Layout.{terms_in}
-use Rattle.adjoint.proofs.Writing.{Filling}
+use Rattle.adjoint.specs.Adjoint.{adjoint_term}
 use Rattle.adjoint.proofs.put_adjoint_terms.Given as goal
 
 abbrev pub invariant-loop-i : goal.invariant-loop-i
-invariant-loop-i l = Filling l.n (terms_in l.a l.n) l.i l.out × (length l.out ≡ length l.initial.out)
-
-abbrev pub decreases-loop-i : goal.decreases-loop-i
-decreases-loop-i l = l.n - l.i
+invariant-loop-i l = take l.i (terms_in l.out l.n) ≡ map adjoint_term (take l.i (terms_in l.a l.n))

@@ -2,18 +2,11 @@
 use native.Mathlib.Omega.{arith}
 use Rattle.record.proofs.Reading.{length_terms}
 use Rattle.adjoint.proofs.Terms.{negatable}
-use Rattle.record.proofs.Columns.{columns_apart}
 use Rattle.adjoint.proofs.Sorting.{few_terms, sorted_terms, sorted_adjoint}
 use Rattle.adjoint.proofs.write_adjoint.Goals as goal
 
 pub put_adjoint_terms-requires : goal.put_adjoint_terms-requires
 put_adjoint_terms-requires c = (c.requires.0, c.requires.1, negatable c.args.m _ c.requires.2)
-
-pub column_places-requires : goal.column_places-requires
-column_places-requires c = omega (arith, few_terms c.args.m c.args.n c.args.a.now c.requires.2)
-
-pub sort-requires : goal.sort-requires
-sort-requires c = rw c.column_places.ensures (columns_apart _ _ (omega (arith, c.requires.1, c.put_adjoint_terms.auto.out)))
 
 pub finish-requires : goal.finish-requires
 finish-requires c =
