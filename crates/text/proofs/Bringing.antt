@@ -86,14 +86,14 @@ module _ (m work : ℕ) (text : List ℕ) (r : Refusal) (e : r ≡ early_refusal
     number : used / 24 ≡ length (text_rows text)
     number = ap (λ (x : ℕ). x / 24) g.ends ∙ mul-div_cancel_left (length (text_rows text)) (lit< tt)
 
-    pub collect_room : 24 * (used / 24) ≤ length l
-    collect_room = omega (arith, number, lines_number (lines_of text), early.fits, len)
-
     stands : rows_at l 0 (used / 24) ≡ text_rows text
     stands = ap (rows_at l 0) number ∙ g.rows
 
-    pub collect_light : Light (rows_at l 0 (used / 24))
-    collect_light cre ann = rw stands (omega (arith, key_below cre ann (text_rows text), lines_weight (lines_of text), early.light))
+    light : Light (rows_at l 0 (used / 24))
+    light cre ann = rw stands (omega (arith, key_below cre ann (text_rows text), lines_weight (lines_of text), early.light))
+
+    pub collectable : (24 * (used / 24) ≤ length l) × Light (rows_at l 0 (used / 24))
+    collectable = (omega (arith, number, lines_number (lines_of text), early.fits, len), light)
 
     pub delivered : (room : ℕ) (k : List ℕ) (n : ℕ) → Collected (used / 24) l k n → result_of room 0 none m (rows_at k 0 n) ≡ import_of m work room text
     delivered room k n c =

@@ -1,12 +1,10 @@
 -- Each way out of `export`, by the record's check.
-use mathlib.Core.Path.{◌≡◌, refl, sym, ap, ap₂, ◌∙◌}
-use mathlib.Core.Bool.{true, false}
+use mathlib.Core.Path.{◌≡◌, refl, ap, ap₂, ◌∙◌}
 use mathlib.Core.List.{List, ◌++◌}
 use Prim.Native.Nat.{ℕ, ◌-◌, ◌≤◌, ◌<◌}
 use native.Mathlib.Omega.{arith}
-use lib.Dec.{leb}
 use lib.ListN.{length, take}
-use borrow.Author.Tests.{leb-true, leb-false, le-leb, lt-leb}
+use borrow.Author.Tests.{le-leb, lt-leb}
 use Rattle.modes.specs.Answers.{none, output_too_short, wrote}
 use Rattle.modes.proofs.Refusals.{first_refuses, second_refuses, neither_refuses}
 use Rattle.lent.specs.Bytes.{zeros}
@@ -22,7 +20,7 @@ use Rattle.record.proofs.Outputs.{gives_as}
 use Rattle.term_lines.specs.Written.{terms_text}
 use Rattle.text.specs.Export.{export_of}
 use Rattle.text.specs.Placing.{PlacedText}
-use Rattle.text.specs.declared.Placed.{Placed}
+use Rattle.std.specs.Prelude.{None, Some}
 
 -- refused by the check
 pub export_refused : (room : ℕ) (a : List ℕ) (c : Checked) → c ≡ checked_of 1 a → (c.refusal.number ≡ 0 → ⊥)
@@ -44,8 +42,7 @@ module _ (room : ℕ) (a : List ℕ) (fine : (refusal_of 1 a).number ≡ 0) wher
   export_fills h = rw (le-leb (length text) room h) (neither_refuses (refusal_of 1 a) none (refused_output room) _ fine refl)
 
 -- what the lines' placing in an output tells
-module _ (out a : List ℕ) (c : Checked) (e : c ≡ checked_of 1 a) (z : c.refusal.number ≡ 0) (m : List ℕ) (p : Placed)
-    (g : PlacedText out 0 (terms_text (terms_in a c.terms)) m p) where
+module _ (out a : List ℕ) (c : Checked) (e : c ≡ checked_of 1 a) (z : c.refusal.number ≡ 0) (m : List ℕ) where
   fine : Accepted 1 a c
   fine = accepted 1 a c e z
 
@@ -55,28 +52,22 @@ module _ (out a : List ℕ) (c : Checked) (e : c ≡ checked_of 1 a) (z : c.refu
   same : terms_text (terms_in a c.terms) ≡ whole
   same = ap terms_text fine.terms
 
-  told : p.fits ≡ leb (length whole) (length out)
-  told = g.told ∙ ap (λ (n : ℕ). leb n (length out)) (omega (arith, ap length same))
+  pub unplaced_refused : PlacedText out 0 (terms_text (terms_in a c.terms)) m None → refused_output (length out) output_too_short ≡ export_of (length out) (read_as 1 a)
+  unplaced_refused short = export_short (length out) a fine.number (omega (arith, ap length same, short))
 
-  pub unplaced_refused : p.fits ≡ false → refused_output (length out) output_too_short ≡ export_of (length out) (read_as 1 a)
-  unplaced_refused f = export_short (length out) a fine.number (leb-false (length whole) (length out) (sym told ∙ f))
-
-  module _ (f : p.fits ≡ true) (k : length m ≡ length out) where
+  module _ (end : ℕ) (g : PlacedText out 0 (terms_text (terms_in a c.terms)) m (Some end)) (k : length m ≡ length out) where
     fits : length whole ≤ length out
-    fits = leb-true (length whole) (length out) (sym told ∙ f)
+    fits = omega (arith, ap length same, g.0)
 
-    stands : Stored out 0 whole m p.end
-    stands = rw same at (g.stored f)
+    stands : Stored out 0 whole m end
+    stands = rw same at g.1
 
-    len : p.end ≡ length whole
+    len : end ≡ length whole
     len = omega (arith, stands.ends)
 
-    pub placed_inside : p.end ≤ length m
-    placed_inside = omega (arith, fits, len)
-
-    pub placed_filled : (after : List ℕ) → after ≡ take p.end m ++ zeros (length m - p.end) → Gives (export_of (length out) (read_as 1 a)) (wrote p.end 0) after
+    pub placed_filled : (after : List ℕ) → after ≡ take end m ++ zeros (length m - end) → Gives (export_of (length out) (read_as 1 a)) (wrote end 0) after
     placed_filled after q =
-        let front : take p.end m ≡ whole = ap (take p.end) stands.bytes ∙ front_taken out whole p.end len in
+        let front : take end m ≡ whole = ap (take end) stands.bytes ∙ front_taken out whole end len in
         gives_as (export_fills (length out) a fine.number fits) (record {
           answer = ap (λ (n : ℕ). wrote n 0) len;
           bytes = q ∙ ap₂ {C = List ℕ} (λ (x : List ℕ) (n : ℕ). x ++ zeros n) front (ap₂ (λ (x y : ℕ). x - y) k len);

@@ -1,11 +1,9 @@
 -- Lines put to an output one after the other, as long as they fit.
 use mathlib.Core.Path.{◌≡◌, refl, sym, ap, ◌∙◌}
-use mathlib.Core.Bool.{true, false, true≢false}
 use mathlib.Core.List.{List, [], ◌++◌, append_assoc, append-nil}
-use Prim.Native.Nat.{ℕ, ◌+◌, ◌≤◌, ◌<◌}
+use Prim.Native.Nat.{ℕ, ◌+◌, ◌≤◌}
 use native.Mathlib.Omega.{arith}
 use lib.ListN.{length, take, drop, length-append}
-use borrow.Author.Tests.{leb-false, le-leb, lt-leb}
 use Rattle.modes.specs.declared.Term.{Term}
 use Rattle.modes.proofs.Sums.{by_front, by_nothing}
 use Rattle.lent.specs.Bytes.{put}
@@ -14,27 +12,16 @@ use Rattle.decimals.proofs.Stores.{stored_none, stored_join, stored_inside, fron
 use Rattle.record.specs.Reading.{At}
 use Rattle.term_lines.specs.Written.{term_text, terms_text}
 use Rattle.text.specs.Placing.{PlacedText}
-use Rattle.text.specs.declared.Placed.{Placed}
-
-abbrev pub unplaced : Placed
-unplaced = record { fits = false; end = 0 }
-
-abbrev pub placed_to : ℕ → Placed
-placed_to end = record { fits = true; end = end }
+use Rattle.std.specs.Prelude.{None, Some}
 
 -- ---- one line, made apart: `line` has it at its front
 
 module _ (out : List ℕ) (at : ℕ) (text line line' : List ℕ) (n : ℕ) (g : Stored line 0 text line' n) where
-  pub line_unplaced : length out < at + n → PlacedText out at text out unplaced
-  line_unplaced h = record { told = sym (lt-leb (at + length text) (length out) (omega (arith, g.ends))); stored = λ e. absurd (true≢false (sym e)) }
-
-  pub line_placed : at + n ≤ length out → (m : List ℕ) → m ≡ put out at (take n line') → PlacedText out at text m (placed_to (at + n))
+  pub line_placed : at + n ≤ length out → (m : List ℕ) → m ≡ put out at (take n line') → PlacedText out at text m (Some (at + n))
   line_placed h m e =
       let is : n ≡ length text = omega (arith, g.ends) in
-      record {
-        told = sym (le-leb (at + length text) (length out) (omega arith));
-        stored = λ _. record { bytes = e ∙ ap (put out at) (ap (take n) g.bytes ∙ front_taken line text n is); ends = ap (λ (k : ℕ). at + k) is };
-      }
+      let bytes = e ∙ ap (put out at) (ap (take n) g.bytes ∙ front_taken line text n is) in
+      (omega arith, record { bytes = bytes; ends = ap (λ (k : ℕ). at + k) is })
 
 -- ---- all lines: those of the terms before the i-th stand in m up to `end`
 
@@ -53,33 +40,29 @@ module _ (out : List ℕ) (ts : List Term) where
     placing_inside = stored_inside g.done (omega arith) g.stored
 
     -- no line is left
-    pub placing_ends : drop i ts ≡ [] → PlacedText out 0 (terms_text ts) m (placed_to end)
+    pub placing_ends : drop i ts ≡ [] → PlacedText out 0 (terms_text ts) m (Some end)
     placing_ends e =
         let none : terms_text (drop i ts) ≡ [] = by_nothing ◌++◌ [] term_text e in
         let all : g.done ≡ terms_text ts = sym (append-nil g.done) ∙ ap (λ (x : List ℕ). g.done ++ x) (sym none) ∙ g.whole in
         let stands : Stored out 0 (terms_text ts) m end = rw (← all) g.stored in
-        record { told = sym (le-leb (0 + length (terms_text ts)) (length out) (omega (arith, stands.ends, placing_inside, g.kept))); stored = λ _. stands }
+        (omega (arith, stands.ends, placing_inside, g.kept), stands)
 
-    module _ (t : Term) (at : At ts i t) (m' : List ℕ) (p : Placed) (k : PlacedText m end (term_text t) m' p) where
+    module _ (t : Term) (at : At ts i t) where
       next_whole : (g.done ++ term_text t) ++ terms_text (drop (i + 1) ts) ≡ terms_text ts
       next_whole =
           append_assoc g.done (term_text t) (terms_text (drop (i + 1) ts)) ∙ ap (λ (x : List ℕ). g.done ++ x) (sym (by_front ◌++◌ [] term_text at)) ∙ g.whole
 
       -- one that does not fit
-      pub placing_stops : p.fits ≡ false → PlacedText out 0 (terms_text ts) m' p
-      placing_stops f =
-          let short = leb-false (end + length (term_text t)) (length m) (sym k.told ∙ f) in
+      pub placing_stops : (m' : List ℕ) → PlacedText m end (term_text t) m' None → PlacedText out 0 (terms_text ts) m' None
+      placing_stops m' short =
           let parts = simp length-append at (ap length next_whole) in
-          record {
-            told = f ∙ sym (lt-leb (0 + length (terms_text ts)) (length out) (omega (arith, short, parts, g.stored.ends, g.kept)));
-            stored = λ e. absurd (true≢false (sym e ∙ f));
-          }
+          omega (arith, short, parts, g.stored.ends, g.kept)
 
-      pub placing_goes : p.fits ≡ true → length m' ≡ length m → Placing out ts m' p.end (i + 1)
-      placing_goes f same =
+      pub placing_goes : (m' : List ℕ) (to : ℕ) → PlacedText m end (term_text t) m' (Some to) → length m' ≡ length m → Placing out ts m' to (i + 1)
+      placing_goes m' to k same =
           record {
             kept = same ∙ g.kept;
             done = g.done ++ term_text t;
-            stored = stored_join g.done (term_text t) (omega arith) g.stored (k.stored f);
+            stored = stored_join g.done (term_text t) (omega arith) g.stored k.1;
             whole = next_whole;
           }

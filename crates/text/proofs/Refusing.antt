@@ -1,6 +1,6 @@
 -- What refuses a text before it is multiplied out, case by case.
 use mathlib.Core.Path.{◌≡◌, refl, sym, ap, ◌∙◌}
-use mathlib.Core.Bool.{true, and-false}
+use mathlib.Core.Bool.{and-false}
 use mathlib.Core.List.{List}
 use mathlib.Core.Logic.{⊎_elim}
 use Prim.Native.Nat.{ℕ, ◌*◌, ◌/◌, ◌^◌, ◌≤◌, ◌<◌}
@@ -12,8 +12,6 @@ use Rattle.modes.specs.Answers.{refusal, none, rows_do_not_fit, product_too_heav
 use Rattle.modes.specs.Refusals.{need, or_else}
 use Rattle.modes.specs.Spaces.{space_of, is_made}
 use Rattle.modes.specs.Sums.{amount_of}
-use Rattle.modes.specs.declared.MadeSpace.{MadeSpace}
-use Rattle.modes.specs.declared.MadeSpace.TheVariants.{Refused}
 use Rattle.modes.proofs.Digits.{lt_or_ge}
 use Rattle.modes.proofs.Refusals.{needed, the_first, the_second, or_second, either_way, not_refused}
 use Rattle.record.proofs.Header.{made}
@@ -57,13 +55,6 @@ capped_spread s work small =
 -- 1, of a mode count
 abbrev pub bad_modes : ℕ → Refusal
 bad_modes m = need (is_made (space_of m)) (refusal 1 1 0)
-
-module _ (m : ℕ) (s : MadeSpace) (e : s ≡ space_of m) where
-  pub modes_good : is_made s ≡ true → none ≡ bad_modes m
-  modes_good h = rw (ap is_made (sym e) ∙ h)
-
-  pub modes_bad : s ≡ Refused → refusal 1 1 0 ≡ bad_modes m
-  modes_bad h = rw (sym e ∙ h)
 
 pub too_many_modes : (m : ℕ) → 64 < m → refusal 1 1 0 ≡ bad_modes m
 too_many_modes m h = rw (lt-leb m 64 h, and-false (leb 1 m))

@@ -19,13 +19,6 @@ ghost use Rattle.text.specs.Placing.{PlacedText};
 use modes::{MadeSpace, ModeSpace, Refusal, Term, Written};
 use scan::Sums;
 
-// Whether text fitted in an output, and where it then ends.
-#[derive(Clone, Copy)]
-struct Placed {
-    fits: bool,
-    end: usize,
-}
-
 // Number 1, of a mode count that no caller has looked at.
 fn modes_refusal(m: u64) -> Refusal
     ensures { result ≡ need (is_made (space_of m)) (refusal 1 1 0) }
@@ -78,6 +71,7 @@ fn gather(text: &[u8], work: &mut [u8]) -> usize
 {
     let mut at = 0;
     let mut used = 0;
+    // A `while`, since each turn goes on after a line, whose length `piece_end` tells.
     while at < text.len() {
         let end = lines::piece_end(text, at, b'\n');
         used = expand::put_line_rows(&text[at..end], work, used);
@@ -108,42 +102,30 @@ pub fn import(m: u64, text: &[u8], work: &mut [u8], out: &mut [u8]) -> Written
     w
 }
 
-// The line of a term, made apart, to `at` if it fits.
-fn place_line(out: &mut [u8], at: usize, t: Term) -> Placed
+// The line of a term, made apart, to `at` if it fits, and where it then ends.
+fn place_line(out: &mut [u8], at: usize, t: Term) -> Option<usize>
     requires { at ≤ length out.old }
     ensures { PlacedText out.old at (term_text t) out.new result }
 {
     let mut line = [0u8; term_lines::LONGEST_LINE];
     let len = term_lines::put_line(&mut line, t);
     if out.len() - at < len {
-        return Placed {
-            fits: false,
-            end: 0,
-        };
+        return None;
     }
     lent::copy(out, at, &line[..len]);
-    Placed {
-        fits: true,
-        end: at + len,
-    }
+    Some(at + len)
 }
 
-// The lines of n terms of a record to the front, one after the other, as long as they fit.
-fn place_lines(a: &[u8], n: usize, out: &mut [u8]) -> Placed
+// The lines of n terms of a record to the front, one after the other, and where they end if all fit.
+fn place_lines(a: &[u8], n: usize, out: &mut [u8]) -> Option<usize>
     requires { Holds a.now n }
     ensures { PlacedText out.old 0 (terms_text (terms_in a.now n)) out.new result }
 {
     let mut end = 0;
-    let mut i = 0;
-    while i < n {
-        let p = place_line(out, end, record::read_term(a, n, i));
-        if !p.fits {
-            return p;
-        }
-        end = p.end;
-        i += 1;
+    for i in 0..n {
+        end = place_line(out, end, record::read_term(a, n, i))?;
     }
-    Placed { fits: true, end }
+    Some(end)
 }
 
 // A record as text: a line for each term, in the record's order.
@@ -155,11 +137,9 @@ pub fn export(a: &[u8], out: &mut [u8]) -> Written
         let refusal = c.refusal;
         return lent::refuse(out, refusal);
     }
-    let p = place_lines(a, c.terms, out);
-    if !p.fits {
+    let Some(len) = place_lines(a, c.terms, out) else {
         return lent::refuse(out, Refusal::OUTPUT_TOO_SHORT);
-    }
-    let len = p.end;
+    };
     lent::wipe_from(out, len);
     Written {
         refusal: Refusal::NONE,

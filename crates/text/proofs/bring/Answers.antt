@@ -2,7 +2,7 @@
 use native.Mathlib.Omega.{arith}
 use lib.ListN.{length}
 use Rattle.record.proofs.Outputs.{gives_as}
-use Rattle.text.proofs.Bringing.{early_refused, readable, collect_room, collect_light, delivered}
+use Rattle.text.proofs.Bringing.{early_refused, readable, collectable, delivered}
 use Rattle.text.proofs.bring.Goals as goal
 
 pub returns-then-refusal-ne0 : goal.returns-then-refusal-ne0
@@ -16,17 +16,15 @@ gather-used-requires c =
 
 pub collect-n-requires : goal.collect-n-requires
 collect-n-requires c =
-    let rows = c.gather-used in (
-      collect_room c.args.m (length c.args.work.now) c.args.text.now _ c.early_refusal-refusal.ensures c.if-refusal-ne0.false _ rows.auto.work _ rows.ensures,
-      collect_light c.args.m (length c.args.work.now) c.args.text.now _ c.early_refusal-refusal.ensures c.if-refusal-ne0.false _ rows.auto.work _ rows.ensures,
-    )
+    let rows = c.gather-used in
+    collectable c.args.m (length c.args.work.now) c.args.text.now _ c.early_refusal-refusal.ensures c.if-refusal-ne0.false _ rows.auto.work _ rows.ensures
 
 pub deliver-requires : goal.deliver-requires
 deliver-requires c =
     let rows = c.gather-used in
     let room =
-    collect_room c.args.m (length c.args.work.now) c.args.text.now _ c.early_refusal-refusal.ensures c.if-refusal-ne0.false _ rows.auto.work _ rows.ensures in
-    omega (arith, c.collect-n.ensures.count, c.collect-n.auto.work, room)
+    collectable c.args.m (length c.args.work.now) c.args.text.now _ c.early_refusal-refusal.ensures c.if-refusal-ne0.false _ rows.auto.work _ rows.ensures in
+    omega (arith, c.collect-n.ensures.count, c.collect-n.auto.work, room.0)
 
 pub returns : goal.returns
 returns c =

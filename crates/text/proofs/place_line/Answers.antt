@@ -4,12 +4,8 @@ use native.Mathlib.Omega.{arith}
 use lib.Seq.{length-take-le}
 use Rattle.decimals.proofs.Stores.{stored_inside}
 use Rattle.term_lines.specs.Written.{term_text}
-use Rattle.text.proofs.Placing.{line_unplaced, line_placed}
+use Rattle.text.proofs.Placing.{line_placed}
 use Rattle.text.proofs.place_line.Goals as goal
-
-pub returns-then-out-at : goal.returns-then-out-at
-returns-then-out-at c =
-    line_unplaced c.args.out.now c.args.at _ _ _ _ c.put_line-len.ensures (omega (arith, c.requires, c.if-out-at.true))
 
 pub slice_bounds-line-end : goal.slice_bounds-line-end
 slice_bounds-line-end c =
@@ -19,12 +15,6 @@ pub slice_bounds-copy-end : goal.slice_bounds-copy-end
 slice_bounds-copy-end c =
     let line = c.put_line-len in
     sym (length-take-le line.result line.new.s (stored_inside (term_text c.args.t) (omega arith) line.ensures))
-
-pub copy-requires : goal.copy-requires
-copy-requires c =
-    let line = c.put_line-len in
-    let inside = stored_inside (term_text c.args.t) (omega arith) line.ensures in
-    omega (arith, length-take-le line.result line.new.s inside, c.if-out-at.false)
 
 pub returns : goal.returns
 returns c =

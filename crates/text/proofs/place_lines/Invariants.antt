@@ -1,10 +1,6 @@
-use Prim.Native.Nat.{◌-◌}
 use Rattle.record.specs.Layout.{terms_in}
 use Rattle.text.proofs.Placing.{Placing}
 use Rattle.text.proofs.place_lines.Given as goal
 
 abbrev pub invariant-loop-i : goal.invariant-loop-i
 invariant-loop-i l = Placing l.initial.out (terms_in l.a l.n) l.out l.end l.i
-
-abbrev pub decreases-loop-i : goal.decreases-loop-i
-decreases-loop-i l = l.n - l.i
