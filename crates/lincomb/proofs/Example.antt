@@ -3,6 +3,7 @@ use mathlib.Core.Path.{◌≡◌, refl}
 use mathlib.Core.List.{[], ◌∷◌, ◌++◌}
 use lib.IntN.{pos, negsuc}
 use Rattle.record.specs.Operands.{read_as}
+use Rattle.std.specs.Prelude.{Ok}
 use Rattle.modes.specs.Answers.{wrote}
 use Rattle.lent.specs.Bytes.{bytes, num, num_at, zeros}
 use Rattle.record.specs.Numbers.{stored, numbers, same_numbers}
@@ -22,7 +23,7 @@ unfolding example bytes num num_at stored numbers same_numbers before weight hea
     join insert collect drop_zeros result_refusal unless
 twice = refl
 
-pub nothing_left : (subtracted 34 (read_as 1 example) (read_as 2 example)).answer ≡ wrote 32 0
+pub nothing_left : (subtracted 34 (read_as 1 example) (read_as 2 example)).answer ≡ Ok (wrote 32 0)
 unfolding example bytes num num_at stored numbers same_numbers before weight header column columns together terms_in laid_out or_else inside term_refusal terms_refusal refusal_of
     join insert collect drop_zeros result_refusal unless
 nothing_left = refl

@@ -10,7 +10,8 @@ use Rattle.modes.specs.declared.Term.{Term}
 use Rattle.modes.proofs.Sums.{sum_append}
 use Rattle.modes.specs.declared.Refusal.{Refusal}
 use Rattle.modes.specs.declared.Written.{Written}
-use Rattle.modes.specs.Answers.{none}
+use Rattle.std.specs.Prelude.{Ok, Err}
+use Rattle.modes.specs.Answers.{Verdict, none}
 use Rattle.modes.specs.Every.{Every}
 use Rattle.modes.proofs.Every.{every_append, every_map}
 use Rattle.lent.specs.Outputs.{refused_output, filled_output, Gives}
@@ -37,16 +38,15 @@ use Rattle.record.proofs.Outputs.{refused_earlier, refused_late, delivers}
 
 -- ---- each way through the call
 
-module _ (minus : Bool) (a b out : List ℕ) (p : Opened) (ep : p ≡ opened_of a b) where
-  pub pair_refused : (p.refusal.number ≡ 0 → ⊥) → refused_output (length out) p.refusal ≡ combined minus (length out) (read_as 1 a) (read_as 2 b)
-  pair_refused h =
-      let e = shuts a b p ep h in
-      rw e (refused_earlier (length out) 0 (operands_refusal (read_as 1 a) (read_as 2 b)) _ (modes_of a) (sum_terms minus (read_as 1 a) (read_as 2 b))
-      (λ q. h (ap (λ (r : Refusal). r.number) e ∙ q)))
+module _ (minus : Bool) (a b out : List ℕ) where
+  pub pair_refused : (r : Refusal) → Err r ≡ opened_of a b → refused_output (length out) r ≡ combined minus (length out) (read_as 1 a) (read_as 2 b)
+  pair_refused r e =
+      refused_earlier (length out) 0 (operands_refusal (read_as 1 a) (read_as 2 b)) _ (modes_of a) (sum_terms minus (read_as 1 a) (read_as 2 b))
+      r (shuts a b r e)
 
-  module _ (z : p.refusal.number ≡ 0) where
+  module _ (p : Opened) (ep : Ok p ≡ opened_of a b) where
     ready : Opens a b p
-    ready = opens a b p ep z
+    ready = opens a b p ep
 
     pub sound_left : Sound a p.left
     sound_left = sound 1 a p.left ready.one ready.left
@@ -64,38 +64,41 @@ module _ (minus : Bool) (a b out : List ℕ) (p : Opened) (ep : p ≡ opened_of 
         (merge_normal (terms_of a) (map (turn minus) (terms_of b)) (accepted_canonical 1 a ready.one).ascending
         (ascending_turn minus (terms_of b) (accepted_canonical 2 b ready.two).ascending))
 
-    module _ (t : Tally) (g : Tallied terms t) (late : Refusal) (el : late ≡ result_refusal (length out) t.terms t.weight) where
-      judged : late ≡ result_refusal (length out) (length (sum_terms minus (read_as 1 a) (read_as 2 b))) (weight (sum_terms minus (read_as 1 a) (read_as 2 b)))
-      judged =
-          el ∙ verdict_same (length out) terms t g ∙ ap (λ (ts : List Term). result_refusal (length out) (length ts) (weight ts)) terms_are
+    module _ (t : Tally) (g : Tallied terms t) where
+      judged : (late : Verdict) → late ≡ result_refusal (length out) t.terms t.weight
+          → late ≡ result_refusal (length out) (length (sum_terms minus (read_as 1 a) (read_as 2 b))) (weight (sum_terms minus (read_as 1 a) (read_as 2 b)))
+      judged late e =
+          e ∙ verdict_same (length out) terms t g ∙ ap (λ (ts : List Term). result_refusal (length out) (length ts) (weight ts)) terms_are
 
-      pub result_refused : (late.number ≡ 0 → ⊥) → refused_output (length out) late ≡ combined minus (length out) (read_as 1 a) (read_as 2 b)
-      result_refused h =
-          refused_late (length out) 0 (operands_refusal (read_as 1 a) (read_as 2 b)) _ (modes_of a) (sum_terms minus (read_as 1 a) (read_as 2 b)) ready.pair late judged h
+      pub result_refused : (r : Refusal) → Err r ≡ result_refusal (length out) t.terms t.weight
+          → refused_output (length out) r ≡ combined minus (length out) (read_as 1 a) (read_as 2 b)
+      result_refused r e =
+          refused_late (length out) 0 (operands_refusal (read_as 1 a) (read_as 2 b)) _ (modes_of a) (sum_terms minus (read_as 1 a) (read_as 2 b))
+          ready.pair r (judged _ e)
 
-      module _ (fine : late.number ≡ 0) where
+      module _ (x : Unit {0}) (fine : Ok x ≡ result_refusal (length out) t.terms t.weight) where
         pub room_enough : Deliverable (length out) t.terms t.weight
-        room_enough = deliverable (length out) t.terms t.weight (ap (λ (r : Refusal). r.number) (sym el) ∙ fine)
+        room_enough = deliverable (length out) t.terms t.weight (sym fine)
 
         -- the record that the code writes is the definition's
         pub result_delivered : filled_output (length out) 0 (encode p.modes terms) ≡ combined minus (length out) (read_as 1 a) (read_as 2 b)
         result_delivered =
             ap₂ (λ (m : ℕ) (ts : List Term). filled_output (length out) 0 (encode m ts)) ready.modes terms_are
-            ∙ delivers (length out) 0 (operands_refusal (read_as 1 a) (read_as 2 b)) _ (modes_of a) (sum_terms minus (read_as 1 a) (read_as 2 b)) ready.pair late judged fine
+            ∙ delivers (length out) 0 (operands_refusal (read_as 1 a) (read_as 2 b)) _ (modes_of a) (sum_terms minus (read_as 1 a) (read_as 2 b))
+            ready.pair x (judged _ fine)
 
 -- ---- the theorems, of the bytes that a call leaves where it is not refused
 
 inside_turn : (m : ℕ) (minus : Bool) (t : Term) → Inside m t → Inside m (turn minus t)
 inside_turn m minus t h = record { ann = h.ann; cre = h.cre }
 
-module _ (minus : Bool) (room : ℕ) (a b : List ℕ) (r : Written) (after : List ℕ) (g : Gives (combined minus room (read_as 1 a) (read_as 2 b)) r after)
-    (z : r.refusal.number ≡ 0) where
+module _ (minus : Bool) (room : ℕ) (a b : List ℕ) (r : Written) (after : List ℕ) (g : Gives (combined minus room (read_as 1 a) (read_as 2 b)) (Ok r) after) where
   abbrev both : List Term
   both = terms_of a ++ map (turn minus) (terms_of b)
 
-  fine : ((operands_refusal (read_as 1 a) (read_as 2 b)).number ≡ 0) ×
-      ((result_refusal room (length (sum_terms minus (read_as 1 a) (read_as 2 b))) (weight (sum_terms minus (read_as 1 a) (read_as 2 b)))).number ≡ 0)
-  fine = none_refused room 0 (operands_refusal (read_as 1 a) (read_as 2 b)) _ (modes_of a) (sum_terms minus (read_as 1 a) (read_as 2 b)) r after g z
+  fine : (operands_refusal (read_as 1 a) (read_as 2 b) ≡ none) ×
+      (result_refusal room (length (sum_terms minus (read_as 1 a) (read_as 2 b))) (weight (sum_terms minus (read_as 1 a) (read_as 2 b))) ≡ none)
+  fine = none_refused room 0 (operands_refusal (read_as 1 a) (read_as 2 b)) _ (modes_of a) (sum_terms minus (read_as 1 a) (read_as 2 b)) r after g
 
   form : Canonical (modes_of a) (sum_terms minus (read_as 1 a) (read_as 2 b))
   form =
@@ -106,13 +109,13 @@ module _ (minus : Bool) (room : ℕ) (a b : List ℕ) (r : Written) (after : Lis
 
   -- the output's record is accepted
   pub sum_accepted : (o : ℕ) → refusal_of o (take r.len after) ≡ none
-  sum_accepted = output_accepted room 0 (operands_refusal (read_as 1 a) (read_as 2 b)) _ (modes_of a) (sum_terms minus (read_as 1 a) (read_as 2 b)) r after g z form
+  sum_accepted = output_accepted room 0 (operands_refusal (read_as 1 a) (read_as 2 b)) _ (modes_of a) (sum_terms minus (read_as 1 a) (read_as 2 b)) r after g form
 
   pub sum_modes : modes_of (take r.len after) ≡ modes_of a
-  sum_modes = output_modes room 0 (operands_refusal (read_as 1 a) (read_as 2 b)) _ (modes_of a) (sum_terms minus (read_as 1 a) (read_as 2 b)) r after g z form
+  sum_modes = output_modes room 0 (operands_refusal (read_as 1 a) (read_as 2 b)) _ (modes_of a) (sum_terms minus (read_as 1 a) (read_as 2 b)) r after g form
 
   pub sum_terms_is : terms_of (take r.len after) ≡ sum_terms minus (read_as 1 a) (read_as 2 b)
-  sum_terms_is = output_terms room 0 (operands_refusal (read_as 1 a) (read_as 2 b)) _ (modes_of a) (sum_terms minus (read_as 1 a) (read_as 2 b)) r after g z form
+  sum_terms_is = output_terms room 0 (operands_refusal (read_as 1 a) (read_as 2 b)) _ (modes_of a) (sum_terms minus (read_as 1 a) (read_as 2 b)) r after g form
 
   -- its elements are those of the first record plus those of the second, with the sign
   pub sum_elements : (bra ket : ℕ) → element bra ket (terms_of (take r.len after)) ≡ element bra ket (terms_of a) +ℤ signed minus (element bra ket (terms_of b))
@@ -121,13 +124,11 @@ module _ (minus : Bool) (room : ℕ) (a b : List ℕ) (r : Written) (after : Lis
       ∙ sum_append (part bra ket) (terms_of a) (map (turn minus) (terms_of b)) ∙ ap (λ (x : ℤ). element bra ket (terms_of a) +ℤ x) (element_turn bra ket minus (terms_of b))
 
 -- ADD: at every bra and ket the element of what is written is the sum of the two records' elements
-pub add_elements : (room : ℕ) (a b : List ℕ) (r : Written) (after : List ℕ) → Gives (added room (read_as 1 a) (read_as 2 b)) r after
-    → r.refusal.number ≡ 0 → (bra ket : ℕ)
+pub add_elements : (room : ℕ) (a b : List ℕ) (r : Written) (after : List ℕ) → Gives (added room (read_as 1 a) (read_as 2 b)) (Ok r) after → (bra ket : ℕ)
     → element bra ket (terms_of (take r.len after)) ≡ element bra ket (terms_of a) +ℤ element bra ket (terms_of b)
 add_elements = sum_elements false
 
 -- SUB: and their difference
-pub sub_elements : (room : ℕ) (a b : List ℕ) (r : Written) (after : List ℕ) → Gives (subtracted room (read_as 1 a) (read_as 2 b)) r after
-    → r.refusal.number ≡ 0 → (bra ket : ℕ)
+pub sub_elements : (room : ℕ) (a b : List ℕ) (r : Written) (after : List ℕ) → Gives (subtracted room (read_as 1 a) (read_as 2 b)) (Ok r) after → (bra ket : ℕ)
     → element bra ket (terms_of (take r.len after)) ≡ element bra ket (terms_of a) +ℤ neg_ℤ (element bra ket (terms_of b))
 sub_elements = sum_elements true

@@ -5,6 +5,8 @@ use mathlib.Core.List.{List, ◌∷◌}
 use Prim.Native.Nat.{ℕ}
 use Rattle.record.specs.Operands.{Operand}
 use Rattle.modes.specs.declared.Term.{Term}
+use Rattle.std.specs.Prelude.{Result}
+use Rattle.modes.specs.declared.Refusal.{Refusal}
 use Rattle.modes.specs.declared.Written.{Written}
 use Rattle.lent.specs.Outputs.{Gives}
 use Rattle.lent.proofs.Outputs.{gives_one}
@@ -13,10 +15,10 @@ use Rattle.lincomb.specs.Sums.{turn, added, subtracted}
 use Rattle.lincomb.specs.Merging.{onward, Pulled}
 use Rattle.lincomb.specs.declared.Step.{Step}
 
-pub one_sum : (room : ℕ) (a b : Operand) (r s : Written) (x y : List ℕ) → Gives (added room a b) r x → Gives (added room a b) s y → (r ≡ s) × (x ≡ y)
+pub one_sum : (room : ℕ) (a b : Operand) (r s : Result Written Refusal) (x y : List ℕ) → Gives (added room a b) r x → Gives (added room a b) s y → (r ≡ s) × (x ≡ y)
 one_sum room a b r s x y = gives_one
 
-pub one_difference : (room : ℕ) (a b : Operand) (r s : Written) (x y : List ℕ) → Gives (subtracted room a b) r x → Gives (subtracted room a b) s y
+pub one_difference : (room : ℕ) (a b : Operand) (r s : Result Written Refusal) (x y : List ℕ) → Gives (subtracted room a b) r x → Gives (subtracted room a b) s y
     → (r ≡ s) × (x ≡ y)
 one_difference room a b r s x y = gives_one
 

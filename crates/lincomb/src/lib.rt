@@ -1,7 +1,7 @@
 // The sum and the difference of two records.
 #![tactic(auto)]
 
-ghost use Rattle.std.specs.Prelude.{◌≡◌, cond, ◌+◌, ◌≤◌, ◌<◌, ◌^◌, eqb, nat_abs, length};
+ghost use Rattle.std.specs.Prelude.{◌≡◌, Ok, cond, ◌+◌, ◌≤◌, ◌<◌, ◌^◌, eqb, nat_abs, length};
 ghost use Rattle.record.specs.Operands.{read_as};
 ghost use Rattle.lent.specs.Outputs.{Gives, filled_output};
 ghost use Rattle.record.specs.Layout.{encode};
@@ -130,7 +130,7 @@ fn write_sum(
 ) -> Written
     requires sound { Sound a.now na × Sound b.now nb }
     requires fits { (n ≡ length (drop_zeros (onward sign.0 a.now na b.now nb 0 0))) × Holds out.old n × (n ≤ 2048) }
-    ensures { Gives (filled_output (length out.old) 0 (encode m (drop_zeros (onward sign.0 a.now na b.now nb 0 0)))) result out.new }
+    ensures { Gives (filled_output (length out.old) 0 (encode m (drop_zeros (onward sign.0 a.now na b.now nb 0 0)))) (Ok result) out.new }
 {
     let mut i = 0;
     let mut j = 0;
@@ -149,34 +149,29 @@ fn write_sum(
 }
 
 // The first record with the second, each of whose terms has the sign.
-fn combine(sign: Sign, a: &[u8], b: &[u8], out: &mut [u8]) -> Written
+fn combine(sign: Sign, a: &[u8], b: &[u8], out: &mut [u8]) -> Result<Written, Refusal>
     ensures { Gives (combined sign.0 (length out.old) (read_as 1 a.now) (read_as 2 b.now)) result out.new }
 {
-    let p = results::open_operands(a, b);
-    if p.refusal.number != 0 {
-        let refusal = p.refusal;
-        return lent::refuse(out, refusal);
-    }
-    let na = p.left;
-    let nb = p.right;
-    let t = count_terms(sign, a, na, b, nb);
-    let n = t.terms;
-    let late = results::verdict(out.len(), n, t.weight);
-    if late.number != 0 {
+    let p = match results::open_operands(a, b) {
+        Ok(p) => p,
+        Err(refusal) => return lent::refuse(out, refusal),
+    };
+    let t = count_terms(sign, a, p.left, b, p.right);
+    if let Err(late) = results::verdict(out.len(), t.terms, t.weight) {
         return lent::refuse(out, late);
     }
-    write_sum(sign, a, na, b, nb, out, p.modes, n)
+    Ok(write_sum(sign, a, p.left, b, p.right, out, p.modes, t.terms))
 }
 
 // The record of the sum.
-pub fn add(a: &[u8], b: &[u8], out: &mut [u8]) -> Written
+pub fn add(a: &[u8], b: &[u8], out: &mut [u8]) -> Result<Written, Refusal>
     ensures { Gives (added (length out.old) (read_as 1 a.now) (read_as 2 b.now)) result out.new }
 {
     combine(Sign::PLUS, a, b, out)
 }
 
 // The record of the difference.
-pub fn sub(a: &[u8], b: &[u8], out: &mut [u8]) -> Written
+pub fn sub(a: &[u8], b: &[u8], out: &mut [u8]) -> Result<Written, Refusal>
     ensures { Gives (subtracted (length out.old) (read_as 1 a.now) (read_as 2 b.now)) result out.new }
 {
     combine(Sign::MINUS, a, b, out)
