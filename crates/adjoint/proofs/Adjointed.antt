@@ -1,5 +1,5 @@
 -- The three ways out of `adjoint`: the record's refusal, no room, and the adjoint's record.
-use mathlib.Core.Path.{◌≡◌, refl, sym, ap, ◌∙◌}
+use mathlib.Core.Path.{◌≡◌, sym, ap, ◌∙◌}
 use mathlib.Core.List.{List}
 use Prim.Native.Nat.{ℕ, ◌≤◌, ◌<◌}
 use native.Mathlib.Omega.{arith}
@@ -15,14 +15,15 @@ use Rattle.record.specs.Refusals.{refusal_of, checked_of}
 use Rattle.record.specs.Canonical.{Canonical}
 use Rattle.record.specs.Outputs.{room_refusal}
 use Rattle.record.specs.declared.Checked.{Checked}
-use Rattle.record.proofs.Accepted.{Accepted, refusal_told, refused}
+use Rattle.std.specs.Prelude.{Err}
+use Rattle.modes.specs.declared.Refusal.{Refusal}
+use Rattle.record.proofs.Accepted.{Accepted, refused}
 use Rattle.record.proofs.Outputs.{refused_earlier, refused_late, delivers}
 use Rattle.adjoint.specs.Adjoint.{adjoint_terms, adjointed}
 
-pub adjointed_refused : (room : ℕ) (l : List ℕ) (c : Checked) → c ≡ checked_of 1 l → (c.refusal.number ≡ 0 → ⊥)
-    → refused_output room c.refusal ≡ adjointed room (read_as 1 l)
-adjointed_refused room l c e h =
-    rw (refusal_told 1 l c e) (refused_earlier room 0 (refusal_of 1 l) _ (modes_of l) (adjoint_terms (terms_of l)) (refused 1 l c e h))
+pub adjointed_refused : (room : ℕ) (l : List ℕ) (r : Refusal) → Err r ≡ checked_of 1 l → refused_output room r ≡ adjointed room (read_as 1 l)
+adjointed_refused room l r e =
+    refused_earlier room 0 (refusal_of 1 l) _ (modes_of l) (adjoint_terms (terms_of l)) r (refused 1 l r e)
 
 module _ (room : ℕ) (l : List ℕ) (c : Checked) (k : Accepted 1 l c) where
   count_is : c.terms ≡ count_of l
@@ -42,10 +43,10 @@ module _ (room : ℕ) (l : List ℕ) (c : Checked) (k : Accepted 1 l c) where
 
   pub adjointed_short : room < record_length c.terms → refused_output room output_too_short ≡ adjointed room (read_as 1 l)
   adjointed_short h =
-      let short : output_too_short ≡ room_refusal room (length (adjoint_terms (terms_of l))) = rw (lt-leb _ _ (rw length_is at h)) in
-      refused_late room 0 (refusal_of 1 l) _ (modes_of l) (adjoint_terms (terms_of l)) k.none output_too_short short (λ e. absurd (omega arith))
+      let short : Err output_too_short ≡ room_refusal room (length (adjoint_terms (terms_of l))) = rw (lt-leb _ _ (rw length_is at h)) in
+      refused_late room 0 (refusal_of 1 l) _ (modes_of l) (adjoint_terms (terms_of l)) k.fine output_too_short short
 
   pub adjointed_filled : record_length c.terms ≤ room → filled_output room 0 (encode c.modes (adjoint_terms (terms_in l c.terms))) ≡ adjointed room (read_as 1 l)
   adjointed_filled h =
       let long : none ≡ room_refusal room (length (adjoint_terms (terms_of l))) = rw (le-leb _ _ (rw length_is at h)) in
-      rw (k.terms, modes_are) (delivers room 0 (refusal_of 1 l) _ (modes_of l) (adjoint_terms (terms_of l)) k.none none long refl)
+      rw (k.terms, modes_are) (delivers room 0 (refusal_of 1 l) _ (modes_of l) (adjoint_terms (terms_of l)) k.fine _ long)

@@ -5,6 +5,7 @@ use Prim.Native.Nat.{ℕ}
 use lib.ListN.{take}
 use Rattle.record.specs.Operands.{read_as}
 use Rattle.modes.specs.declared.Written.{Written}
+use Rattle.std.specs.Prelude.{Ok}
 use Rattle.modes.specs.Answers.{none}
 use Rattle.lent.specs.Outputs.{Gives}
 use Rattle.products.specs.Operators.{element}
@@ -20,7 +21,7 @@ use Rattle.adjoint.proofs.Elements.{element_adjoint}
 
 -- ---- the adjoint's bytes
 
-module _ (l : List ℕ) (e : (refusal_of 1 l).number ≡ 0) where
+module _ (l : List ℕ) (e : refusal_of 1 l ≡ none) where
   canonical : Canonical (modes_of l) (adjoint_terms (terms_of l))
   canonical = canonical_adjoint (modes_of l) (terms_of l) (accepted_canonical 1 l e)
 
@@ -42,19 +43,19 @@ module _ (l : List ℕ) (e : (refusal_of 1 l).number ≡ 0) where
 
 -- an answer that is no refusal, and its bytes
 pub record Left (l after : List ℕ) (r : Written) : Type 0 where
-  pub fine : (refusal_of 1 l).number ≡ 0
+  pub fine : refusal_of 1 l ≡ none
   pub bytes : take r.len after ≡ adjoint_bytes l
 
-pub left_by : (room : ℕ) (l after : List ℕ) (r : Written) → Gives (adjointed room (read_as 1 l)) r after → r.refusal.number ≡ 0 → Left l after r
-left_by room l after r g e =
+pub left_by : (room : ℕ) (l after : List ℕ) (r : Written) → Gives (adjointed room (read_as 1 l)) (Ok r) after → Left l after r
+left_by room l after r g =
     record {
-      fine = (none_refused room 0 (refusal_of 1 l) _ (modes_of l) (adjoint_terms (terms_of l)) r after g e).0;
-      bytes = output_record room 0 (refusal_of 1 l) _ (modes_of l) (adjoint_terms (terms_of l)) r after g e;
+      fine = (none_refused room 0 (refusal_of 1 l) _ (modes_of l) (adjoint_terms (terms_of l)) r after g).0;
+      bytes = output_record room 0 (refusal_of 1 l) _ (modes_of l) (adjoint_terms (terms_of l)) r after g;
     }
 
-module _ (room : ℕ) (l after : List ℕ) (r : Written) (g : Gives (adjointed room (read_as 1 l)) r after) (e : r.refusal.number ≡ 0) where
+module _ (room : ℕ) (l after : List ℕ) (r : Written) (g : Gives (adjointed room (read_as 1 l)) (Ok r) after) where
   left : Left l after r
-  left = left_by room l after r g e
+  left = left_by room l after r g
 
   -- the output's record is itself accepted, on the same modes
   pub adjoint_accepted : (o : ℕ) → refusal_of o (take r.len after) ≡ none
@@ -70,8 +71,7 @@ module _ (room : ℕ) (l after : List ℕ) (r : Written) (g : Gives (adjointed r
       ∙ element_adjoint bra ket (terms_of l) (canonical_fit (modes_of l) (terms_of l) (accepted_canonical 1 l left.fine))
 
   -- the adjoint of what it leaves is the record
-  pub adjoint_restores : (room' : ℕ) (after' : List ℕ) (r' : Written) → Small l → Gives (adjointed room' (read_as 1 (take r.len after))) r' after'
-      → r'.refusal.number ≡ 0
+  pub adjoint_restores : (room' : ℕ) (after' : List ℕ) (r' : Written) → Small l → Gives (adjointed room' (read_as 1 (take r.len after))) (Ok r') after'
       → take r'.len after' ≡ l
-  adjoint_restores room' after' r' small g' e' =
-      (left_by room' (take r.len after) after' r' g' e').bytes ∙ ap adjoint_bytes left.bytes ∙ bytes_twice l left.fine small
+  adjoint_restores room' after' r' small g' =
+      (left_by room' (take r.len after) after' r' g').bytes ∙ ap adjoint_bytes left.bytes ∙ bytes_twice l left.fine small

@@ -1,7 +1,7 @@
 // The adjoint of a record, and the Hermitian test.
 #![tactic(auto)]
 
-ghost use Rattle.std.specs.Prelude.{◌≡◌, map, ◌≤◌, length};
+ghost use Rattle.std.specs.Prelude.{◌≡◌, Ok, map, ◌≤◌, length};
 ghost use Rattle.record.specs.Operands.{read_as};
 ghost use Rattle.modes.specs.Words.{bit};
 ghost use Rattle.modes.specs.Counts.{count, pairs};
@@ -15,7 +15,6 @@ ghost use Rattle.adjoint.specs.Adjoint.{Negatable, adjoint_term, adjoint_terms, 
 ghost use Rattle.adjoint.specs.Hermitian.{Among, AdjointsAmong, Tells, hermitian_of};
 
 use modes::{Refusal, Sign, Term, Written};
-use record::Tested;
 
 // The number of pairs of the word's modes.
 fn pairs_in(word: u64) -> u32
@@ -57,7 +56,7 @@ fn put_adjoint_terms(a: &[u8], n: usize, out: &mut [u8])
 // The adjoint's record, its terms sorted where they stand.
 fn write_adjoint(a: &[u8], m: u64, n: usize, out: &mut [u8]) -> Written
     requires { Holds a.now n × Holds out.old n × Canonical m (terms_in a.now n) }
-    ensures { Gives (filled_output (length out.old) 0 (encode m (adjoint_terms (terms_in a.now n)))) result out.new }
+    ensures { Gives (filled_output (length out.old) 0 (encode m (adjoint_terms (terms_in a.now n)))) (Ok result) out.new }
 {
     put_adjoint_terms(a, n, out);
     quicksort::sort(out, record::column_places(n), n);
@@ -65,19 +64,17 @@ fn write_adjoint(a: &[u8], m: u64, n: usize, out: &mut [u8]) -> Written
 }
 
 // The adjoint of a record, as a record.
-pub fn adjoint(a: &[u8], out: &mut [u8]) -> Written
+pub fn adjoint(a: &[u8], out: &mut [u8]) -> Result<Written, Refusal>
     ensures { Gives (adjointed (length out.old) (read_as 1 a.now)) result out.new }
 {
-    let c = record::check(a, 1);
-    if c.refusal.number != 0 {
-        let refusal = c.refusal;
-        return lent::refuse(out, refusal);
-    }
-    let n = c.terms;
-    if out.len() < record::length_of(n) {
+    let c = match record::check(a, 1) {
+        Ok(c) => c,
+        Err(refusal) => return lent::refuse(out, refusal),
+    };
+    if out.len() < record::length_of(c.terms) {
         return lent::refuse(out, Refusal::OUTPUT_TOO_SHORT);
     }
-    write_adjoint(a, c.modes, n, out)
+    Ok(write_adjoint(a, c.modes, c.terms, out))
 }
 
 // Is t one of the n terms? It can only stand after those before it.
@@ -109,21 +106,9 @@ fn has_adjoints(s: &[u8], n: usize) -> bool
 }
 
 // Are the adjoint's bytes the record's? No output is lent: they are if the adjoint of every term is among the terms.
-pub fn is_hermitian(a: &[u8]) -> Tested
+pub fn is_hermitian(a: &[u8]) -> Result<bool, Refusal>
     ensures { result ≡ hermitian_of a.now }
 {
-    let c = record::check(a, 1);
-    if c.refusal.number != 0 {
-        let refusal = c.refusal;
-        return Tested {
-            refusal,
-            holds: false,
-        };
-    }
-    let n = c.terms;
-    let holds = has_adjoints(a, n);
-    Tested {
-        refusal: Refusal::NONE,
-        holds,
-    }
+    let c = record::check(a, 1)?;
+    Ok(has_adjoints(a, c.terms))
 }

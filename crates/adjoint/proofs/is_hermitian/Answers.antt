@@ -1,20 +1,23 @@
 -- `adjoint::is_hermitian` meets its contract: the record's refusal, or whether every term has its partner.
+use mathlib.Core.Path.{◌∙◌}
+use Rattle.modes.proofs.Refusals.{handed_on}
 use Rattle.record.proofs.Accepted.{accepted, readable}
 use Rattle.adjoint.proofs.Terms.{negatable}
 use Rattle.adjoint.proofs.Adjointed.{canonical}
 use Rattle.adjoint.proofs.Hermitian.{hermitian_refused, hermitian_found}
 use Rattle.adjoint.proofs.is_hermitian.Goals as goal
 
-pub returns-then-c-ne0 : goal.returns-then-c-ne0
-returns-then-c-ne0 c = hermitian_refused _ _ c.check-c.ensures c.if-c-ne0.true
+pub returns-in_err-c : goal.returns-in_err-c
+returns-in_err-c c =
+    handed_on _ _ c.from_residual.ensures.0 c.from_residual.ensures.1 ∙ hermitian_refused _ _ c.in_err-c.ensures
 
-pub has_adjoints-holds-requires : goal.has_adjoints-holds-requires
-has_adjoints-holds-requires c =
-    let k = accepted 1 _ _ c.check-c.ensures c.if-c-ne0.false in
+pub has_adjoints-requires : goal.has_adjoints-requires
+has_adjoints-requires c =
+    let k = accepted 1 _ _ c.in_ok-c.ensures in
     let r = readable 1 _ _ k in
     (r.0, r.1, negatable _ _ (canonical 0 _ _ k))
 
 pub returns : goal.returns
 returns c =
-    hermitian_found _ _ (accepted 1 _ _ c.check-c.ensures c.if-c-ne0.false)
-    (λ k. (c.type_inv.a k).fits) _ c.has_adjoints-holds.ensures
+    hermitian_found _ _ (accepted 1 _ _ c.in_ok-c.ensures)
+    (λ k. (c.type_inv.a k).fits) _ c.has_adjoints.ensures
