@@ -1,9 +1,12 @@
 -- The two ways through the call: refused, or the pair that the terms of the difference name.
-use mathlib.Core.Path.{◌≡◌, sym, refl}
+use mathlib.Core.Path.{◌≡◌, sym, refl, ap}
 use mathlib.Core.Bool.{true}
 use mathlib.Core.List.{List}
 use Prim.Native.Nat.{ℕ}
+use Rattle.std.specs.Prelude.{Option, Result, Ok, Err}
+use Rattle.modes.specs.declared.Refusal.{Refusal}
 use Rattle.modes.specs.Answers.{none}
+use Rattle.compare.specs.declared.Difference.{Difference}
 use Rattle.modes.proofs.Refusals.{unless_not, unless_so}
 use Rattle.record.specs.Operands.{read_as}
 use Rattle.record.specs.Layout.{terms_of}
@@ -14,25 +17,27 @@ use Rattle.record.specs.Reading.{Sound}
 use Rattle.lincomb.specs.Merging.{onward}
 use Rattle.results.specs.declared.Opened.{Opened}
 use Rattle.results.proofs.Results.{Opens, opens, shuts}
-use Rattle.compare.specs.Comparison.{named, refused_comparison, compared_of, differing}
+use Rattle.compare.specs.Comparison.{named, compared_of, differing}
 use Rattle.compare.proofs.Naming.{named_same}
 use Rattle.compare.proofs.Differing.{Differ, lists_differing, lists_difference}
 
-module _ (a b : List ℕ) (p : Opened) (ep : p ≡ opened_of a b) where
-  pub comparison_refused : (p.refusal.number ≡ 0 → ⊥) → refused_comparison p.refusal ≡ compared_of (read_as 1 a) (read_as 2 b)
-  comparison_refused h =
-      let e = shuts a b p ep h in rw e (sym (unless_so (operands_refusal (read_as 1 a) (read_as 2 b)) refused_comparison _ (rw e at h)))
+abbrev pub found : Option Difference → Result (Option Difference) Refusal
+found d = Ok d
 
-  module _ (z : p.refusal.number ≡ 0) where
+module _ (a b : List ℕ) where
+  pub comparison_refused : (r : Refusal) → Err r ≡ opened_of a b → Err r ≡ compared_of (read_as 1 a) (read_as 2 b)
+  comparison_refused r e = sym (unless_so (operands_refusal (read_as 1 a) (read_as 2 b)) Err _ r (shuts a b r e))
+
+  module _ (p : Opened) (ep : Ok p ≡ opened_of a b) where
     ready : Opens a b p
-    ready = opens a b p ep z
+    ready = opens a b p ep
 
     pub both_sound : Sound a p.left × Sound b p.right
     both_sound = (sound 1 a p.left ready.one ready.left, sound 2 b p.right ready.two ready.right)
 
-    pub comparison_found : named (drop_zeros (onward true a p.left b p.right 0 0)) ≡ compared_of (read_as 1 a) (read_as 2 b)
+    pub comparison_found : Ok (named (drop_zeros (onward true a p.left b p.right 0 0))) ≡ compared_of (read_as 1 a) (read_as 2 b)
     comparison_found =
-        rw (ready.left, ready.right, ready.pair, unless_not none refused_comparison (named (differing (terms_of a) (terms_of b))) refl)
-        (named_same (Differ (terms_of a) (terms_of b)) _ _
+        rw (ready.left, ready.right, ready.pair, unless_not none Err (Ok (named (differing (terms_of a) (terms_of b)))) refl)
+        (ap found (named_same (Differ (terms_of a) (terms_of b)) _ _
         (lists_difference (terms_of a) (terms_of b) (accepted_canonical 1 a ready.one).ascending (accepted_canonical 2 b ready.two).ascending)
-        (lists_differing (terms_of a) (terms_of b)))
+        (lists_differing (terms_of a) (terms_of b))))

@@ -7,11 +7,10 @@ use lib.Dec.{eqb}
 use lib.IntN.{nat_abs}
 use borrow.Author.Tests.{eq-eqb, ne_eqb}
 use Rattle.modes.specs.declared.Term.{Term}
-use Rattle.modes.specs.Answers.{none}
 use Rattle.normal.specs.Normal.{drop_zeros}
 use Rattle.compare.specs.Comparison.{ahead, foremost, named}
 use Rattle.compare.specs.Finding.{leading, with_term}
-use Rattle.compare.specs.declared.Compared.{Compared}
+use Rattle.compare.specs.declared.Difference.{Difference}
 
 -- what the code tests
 module _ (found : Option Term) (t : Term) where
@@ -62,11 +61,11 @@ finding_goes whole left rest t f g e q p =
 
 module _ (whole left : List Term) (e : left ≡ []) where
   pub finding_ends_some : (t : Term) → Finding whole left (Some t)
-      → ◌≡◌ {A = Compared} (record { refusal = none; equal = false; bra = t.cre; ket = t.ann }) (named (drop_zeros whole))
+      → ◌≡◌ {A = Option Difference} (Some (record { bra = t.cre; ket = t.ann })) (named (drop_zeros whole))
   unfolding drop_zeros named foremost
   finding_ends_some t g = sym (g ∙ ap (λ (ts : List Term). named (t ∷ drop_zeros ts)) e)
 
   pub finding_ends_none : Finding whole left None
-      → ◌≡◌ {A = Compared} (record { refusal = none; equal = true; bra = 0; ket = 0 }) (named (drop_zeros whole))
+      → ◌≡◌ {A = Option Difference} None (named (drop_zeros whole))
   unfolding drop_zeros named
   finding_ends_none g = sym (g ∙ ap (λ (ts : List Term). named (drop_zeros ts)) e)

@@ -1,5 +1,5 @@
 -- Which term is named: one of those that differ, with none ahead of it. So lists of the same words name the same pair.
-use mathlib.Core.Path.{◌≡◌, refl, sym, ap₂, ◌∙◌}
+use mathlib.Core.Path.{◌≡◌, refl, sym, ap₂, ◌∙◌, subst}
 use mathlib.Core.Bool.{Bool, true, false, cond, true≢false}
 use mathlib.Core.List.{List, [], ◌∷◌}
 use mathlib.Core.Logic.{inl, inr}
@@ -7,10 +7,11 @@ use Prim.Native.Nat.{ℕ, ◌<◌}
 use lib.IntN.{pos}
 use Rattle.modes.specs.Words.{bit}
 use Rattle.modes.specs.Counts.{count}
-use Rattle.modes.specs.Answers.{none as unrefused}
 use Rattle.modes.specs.declared.Term.{Term}
 use Rattle.modes.specs.Every.{Every, none, more}
 use Rattle.normal.proofs.Words.{Held}
+use Rattle.std.specs.Prelude.{Option, Some, None}
+use Rattle.compare.specs.declared.Difference.{Difference}
 use Rattle.compare.specs.Comparison.{ahead, foremost, named}
 use Rattle.compare.proofs.Ahead.{fewer, is_ahead, not_itself, ahead_words, Placed, first, alike, second, placed, behind, not_ahead}
 
@@ -48,6 +49,12 @@ held_behind x g (t ∷ ts) (more h hs) (inr s) = held_behind x g ts hs s
 
 -- ---- the pair that is named
 
+some_same : {x y : Difference} → ◌≡◌ {A = Option Difference} (Some x) (Some y) → x ≡ y
+some_same e = cc
+
+abbrev words : ℕ → ℕ → Option Difference
+words a c = Some (record { bra = c; ket = a })
+
 module _ (D : ℕ → ℕ → Type 0) where
   nothing_named : (ts : List Term) → Lists D [] → Lists D ts → named [] ≡ named ts
   nothing_named [] k l = refl
@@ -78,36 +85,38 @@ module _ (D : ℕ → ℕ → Type 0) where
 
       go : Placed f g → named (t ∷ ts) ≡ named (u ∷ us)
       go (first h) = absurd (true≢false (sym h ∙ before_g))
-      go (alike p q) = ap₂ (λ (a c : ℕ). record { refusal = unrefused; equal = false; bra = c; ket = a }) p q
+      go (alike p q) = ap₂ words p q
       go (second h) = absurd (true≢false (sym h ∙ before_f))
 
   module _ (ts : List Term) (k : Lists D ts) where
     -- equal: nothing differs
-    pub none_named : (named ts).equal ≡ true → (c a : ℕ) → D c a → ⊥
+    pub none_named : named ts ≡ None → (c a : ℕ) → D c a → ⊥
     unfolding named
     none_named e c a d = go ts e (k.all c a d)
       where
-        go : (us : List Term) → (named us).equal ≡ true → Held c a us → ⊥
+        go : (us : List Term) → named us ≡ None → Held c a us → ⊥
         go [] q h = h
-        go (u ∷ us) q h = true≢false (sym q)
+        go (u ∷ us) q h = cc
 
-    -- different: the words named differ, and none with fewer annihilations do
-    pub named_differs : (named ts).equal ≡ false → D (named ts).bra (named ts).ket
-    unfolding named
-    named_differs e = go ts k.each e
-      where
-        go : (us : List Term) → Every (λ t. D t.cre t.ann) us → (named us).equal ≡ false → D (named us).bra (named us).ket
-        go [] h q = absurd (true≢false q)
-        go (u ∷ us) h q = foremost_of (λ t. D t.cre t.ann) u us h
+    module _ (d : Difference) (e : named ts ≡ Some d) where
+      -- different: the words named differ, and none with fewer annihilations do
+      pub named_differs : D d.bra d.ket
+      unfolding named
+      named_differs = go ts k.each e
+        where
+          go : (us : List Term) → Every (λ t. D t.cre t.ann) us → named us ≡ Some d → D d.bra d.ket
+          go [] h q = cc
+          go (u ∷ us) h q = subst (λ (x : Difference). D x.bra x.ket) (some_same q) (foremost_of (λ t. D t.cre t.ann) u us h)
 
-    pub none_fewer : (named ts).equal ≡ false → (c a : ℕ) → count 64 (bit a) < count 64 (bit (named ts).ket) → D c a → ⊥
-    unfolding named
-    none_fewer e c a f d = go ts (k.all c a d) e f
-      where
-        word : Term
-        word = record { cre = c; ann = a; coeff = pos 0 }
+      pub none_fewer : (c a : ℕ) → count 64 (bit a) < count 64 (bit d.ket) → D c a → ⊥
+      unfolding named
+      none_fewer c a f n = go ts (k.all c a n) e
+        where
+          word : Term
+          word = record { cre = c; ann = a; coeff = pos 0 }
 
-        go : (us : List Term) → Held c a us → (named us).equal ≡ false → count 64 (bit a) < count 64 (bit (named us).ket) → ⊥
-        go [] h q l = h
-        go (u ∷ us) h q l =
-            true≢false (sym (is_ahead word (foremost u us) (fewer l)) ∙ held_behind word (foremost u us) (u ∷ us) (none_ahead u us) h)
+          go : (us : List Term) → Held c a us → named us ≡ Some d → ⊥
+          go [] h q = h
+          go (u ∷ us) h q =
+              let l = subst (λ (x : Difference). count 64 (bit a) < count 64 (bit x.ket)) (sym (some_same q)) f in
+              true≢false (sym (is_ahead word (foremost u us) (fewer l)) ∙ held_behind word (foremost u us) (u ∷ us) (none_ahead u us) h)

@@ -1,15 +1,14 @@
 -- The comparison of two records: the terms that differ, which of them is named, and the whole answer.
-use Rattle.std.specs.Prelude.{Bool, true, false, not, cond, ◌&&◌, ◌||◌, List, [], ◌∷◌, ◌++◌, eqb, ltb, nat_abs, ◌-ℤ◌}
+use Rattle.std.specs.Prelude.{Option, Some, None, Result, Bool, not, cond, ◌&&◌, ◌||◌, List, [], ◌∷◌, ◌++◌, eqb, ltb, nat_abs, ◌-ℤ◌}
 use Rattle.modes.specs.declared.Term.{Term}
 use Rattle.modes.specs.declared.Refusal.{Refusal}
-use Rattle.modes.specs.Answers.{none}
 use Rattle.record.specs.Terms.{before}
 use Rattle.modes.specs.Terms.{annihilations}
 use Rattle.record.specs.Coefficients.{coeff_of}
 use Rattle.record.specs.Operands.{Operand}
-use Rattle.modes.specs.Refusals.{unless}
+use Rattle.modes.specs.Refusals.{answered}
 use Rattle.results.specs.Results.{operands_refusal}
-use Rattle.compare.specs.declared.Compared.{Compared}
+use Rattle.compare.specs.declared.Difference.{Difference}
 
 -- t is held by one list only or with other coefficients: its words have not one coefficient in both, which is 0 where they are not held
 abbrev pub differs : List Term → List Term → Term → Bool
@@ -32,14 +31,11 @@ unfoldable pub foremost : Term → List Term → Term
 foremost t [] = t
 foremost t (u ∷ ts) = foremost (cond (ahead u t) u t) ts
 
--- what is answered where ts are the terms that differ: the ket is the annihilation word of the one named, the bra its creation word
-unfoldable pub named : List Term → Compared
-named [] = record { refusal = none; equal = true; bra = 0; ket = 0 }
-named (t ∷ ts) = let f = foremost t ts in record { refusal = none; equal = false; bra = f.cre; ket = f.ann }
-
-abbrev pub refused_comparison : Refusal → Compared
-refused_comparison r = record { refusal = r; equal = false; bra = 0; ket = 0 }
+-- the pair that is named where ts are the terms that differ: the ket is the annihilation word of the one named, the bra its creation word
+unfoldable pub named : List Term → Option Difference
+named [] = None
+named (t ∷ ts) = let f = foremost t ts in Some (record { bra = f.cre; ket = f.ann })
 
 -- 1 to 6, and then the terms
-abbrev pub compared_of : Operand → Operand → Compared
-compared_of a b = unless (operands_refusal a b) refused_comparison (named (differing a.terms b.terms))
+abbrev pub compared_of : Operand → Operand → Result (Option Difference) Refusal
+compared_of a b = answered (operands_refusal a b) (named (differing a.terms b.terms))

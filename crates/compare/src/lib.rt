@@ -11,11 +11,9 @@ ghost use Rattle.compare.specs.Finding.{with_term};
 
 use modes::{Refusal, Sign, Term};
 
-// Equal; or different, with the bra and the ket at which the elements differ. False, 0 and 0 where it is refused.
+// Two words at which the elements of two records differ.
 #[derive(Clone, Copy)]
-pub struct Compared {
-    pub refusal: Refusal,
-    pub equal: bool,
+pub struct Difference {
     pub bra: u64,
     pub ket: u64,
 }
@@ -46,7 +44,7 @@ fn with_term(found: Option<Term>, t: Term) -> Option<Term>
 }
 
 // Both records gone through in step, as for their difference: its terms are those that differ.
-fn find(a: &[u8], na: usize, b: &[u8], nb: usize) -> Compared
+fn find(a: &[u8], na: usize, b: &[u8], nb: usize) -> Option<Difference>
     requires { Sound a.now na × Sound b.now nb }
     ensures { result ≡ named (drop_zeros (onward true a.now na b.now nb 0 0)) }
 {
@@ -61,36 +59,18 @@ fn find(a: &[u8], na: usize, b: &[u8], nb: usize) -> Compared
         j = s.right;
     }
     match found {
-        Some(t) => Compared {
-            refusal: Refusal::NONE,
-            equal: false,
+        Some(t) => Some(Difference {
             bra: t.cre,
             ket: t.ann,
-        },
-        None => Compared {
-            refusal: Refusal::NONE,
-            equal: true,
-            bra: 0,
-            ket: 0,
-        },
+        }),
+        None => None,
     }
 }
 
 // Are the two records equal? If not, the pair of words that is named.
-pub fn compare(a: &[u8], b: &[u8]) -> Compared
+pub fn compare(a: &[u8], b: &[u8]) -> Result<Option<Difference>, Refusal>
     ensures { result ≡ compared_of (read_as 1 a.now) (read_as 2 b.now) }
 {
-    let p = results::open_operands(a, b);
-    if p.refusal.number != 0 {
-        let refusal = p.refusal;
-        return Compared {
-            refusal,
-            equal: false,
-            bra: 0,
-            ket: 0,
-        };
-    }
-    let na = p.left;
-    let nb = p.right;
-    find(a, na, b, nb)
+    let p = results::open_operands(a, b)?;
+    Ok(find(a, p.left, b, p.right))
 }

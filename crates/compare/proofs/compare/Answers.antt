@@ -1,13 +1,15 @@
 -- `compare::compare` meets its contract: refused with the pair, or the pair of words that is named.
-use mathlib.Core.Path.{◌∙◌}
-use Rattle.compare.proofs.Comparing.{comparison_refused, both_sound, comparison_found}
+use mathlib.Core.Path.{ap, ◌∙◌}
+use Rattle.modes.proofs.Refusals.{handed_on}
+use Rattle.compare.proofs.Comparing.{found, comparison_refused, both_sound, comparison_found}
 use Rattle.compare.proofs.compare.Goals as goal
 
-pub returns-then-p-ne0 : goal.returns-then-p-ne0
-returns-then-p-ne0 c = comparison_refused _ _ _ c.open_operands-p.ensures c.if-p-ne0.true
+pub returns-in_err-p : goal.returns-in_err-p
+returns-in_err-p c =
+    handed_on _ _ c.from_residual.ensures.0 c.from_residual.ensures.1 ∙ comparison_refused _ _ _ c.in_err-p.ensures
 
 pub find-requires : goal.find-requires
-find-requires c = both_sound _ _ _ c.open_operands-p.ensures c.if-p-ne0.false
+find-requires c = both_sound _ _ _ c.in_ok-p.ensures
 
 pub returns : goal.returns
-returns c = c.find.ensures ∙ comparison_found _ _ _ c.open_operands-p.ensures c.if-p-ne0.false
+returns c = ap found c.find.ensures ∙ comparison_found _ _ _ c.in_ok-p.ensures
