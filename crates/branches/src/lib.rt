@@ -72,11 +72,9 @@ fn of_term(t: Term, b: &[u8], n: usize) -> u64
     ensures { result ≡ up_to (branches_with t (terms_in b.now n)) }
 {
     let mut so_far = 0;
-    let mut j = 0;
-    while j < n {
+    for j in 0..n {
         let u = record::read_term(b, n, j);
         so_far = more(so_far, of_pair(t, u));
-        j += 1;
     }
     so_far
 }
@@ -87,11 +85,9 @@ fn of_all(a: &[u8], na: usize, b: &[u8], nb: usize) -> u64
     ensures { result ≡ up_to (branches_of_all (terms_in a.now na) (terms_in b.now nb)) }
 {
     let mut so_far = 0;
-    let mut i = 0;
-    while i < na {
+    for i in 0..na {
         let t = record::read_term(a, na, i);
         so_far = more(so_far, of_term(t, b, nb));
-        i += 1;
     }
     so_far
 }

@@ -1,12 +1,11 @@
 -- An accepted record counted, number by number.
 use mathlib.Core.Path.{◌≡◌, ap, ◌∙◌}
-use mathlib.Core.Bool.{true}
 use mathlib.Core.List.{List}
-use Prim.Native.Nat.{ℕ, ◌+◌, ◌*◌, ◌^◌, ◌<◌, max}
+use Prim.Native.Nat.{ℕ, ◌+◌, ◌*◌, ◌<◌, max}
 use native.Mathlib.Omega.{arith}
 use lib.ListN.{length, get_or, set, length-set}
 use lib.Seq.{get_or-set_same, get_or-set_other}
-use Rattle.report.specs.Reports.{share_in, report_in, within, grow}
+use Rattle.report.specs.Reports.{share_in, report_in, grow}
 use Rattle.report.specs.Steps.{Grown, Mergeable, Merged, Countable, AcceptedIn}
 use Rattle.record.specs.declared.Checked.{Checked}
 use Rattle.report.proofs.Limits.{Open, opened, within_limits, ranks_within}
@@ -19,15 +18,6 @@ module _ (l : List ℕ) (c : Checked) (terms weights : List ℕ) (a : Countable 
   -- a record more, then the share of all terms, in k
   abbrev pub counted : List ℕ
   counted = set l 0 (get_or l 0 0 + 1)
-
-  pub count_fits : get_or l 0 0 + 1 < 2 ^ 64
-  count_fits = omega (arith, room.few)
-
-  pub total_inside : 2 + 2 < length counted
-  total_inside = omega (arith, length-set l 0 (get_or l 0 0 + 1), a.size)
-
-  pub total_within : within (share_in counted 2) ≡ true
-  total_within = rw (share_set l 0 (get_or l 0 0 + 1) 2 (omega arith)) (within_limits _ room.total)
 
   module _ (k : List ℕ) (g : Grown 2 c.terms c.weight counted k) where
     same_size : length k ≡ length l

@@ -2,7 +2,7 @@
 use mathlib.Core.Path.{◌≡◌, refl, sym, ap, ◌∙◌}
 use mathlib.Core.Bool.{Bool, true, false}
 use mathlib.Core.List.{List}
-use Prim.Native.Nat.{ℕ, ◌+◌, ◌*◌, ◌^◌, ◌<◌}
+use Prim.Native.Nat.{ℕ, ◌+◌, ◌*◌}
 use native.Mathlib.Omega.{arith}
 use lib.Dec.{eqb}
 use lib.ListN.{length, get_or, set, length-set}
@@ -25,7 +25,6 @@ use Rattle.tally.specs.Tallies.{Tallied, Tallies}
 use Rattle.tally.proofs.Ranks as ranks
 use Rattle.report.specs.Steps.{Light, Countable, AcceptedIn}
 use Rattle.report.specs.declared.Counted.{Counted}
-use Rattle.report.proofs.Limits.{opened}
 use Rattle.report.proofs.Growing.{share_set}
 use Rattle.report.proofs.Numbers.{Agree, numbers_of_is}
 
@@ -39,9 +38,6 @@ not_taken l a e =
     }
 
 -- ---- a report that is taken
-
-pub refused_fits : (l : List ℕ) → is_open (report_in l) ≡ true → get_or l 1 0 + 1 < 2 ^ 64
-refused_fits l e = omega (arith, (opened (report_in l) e).few)
 
 module _ (l : List ℕ) (a : Operand) (e : is_open (report_in l) ≡ true) where
   taken : (k : List ℕ) → k ≡ numbers_of (with_record a (report_in l)) → k ≡ report_after l a

@@ -1,19 +1,14 @@
 -- The limits of a report, share by share.
 use mathlib.Core.Path.{◌≡◌, refl, sym, ap, ◌∙◌}
 use mathlib.Core.Logic.{⊎_elim}
-use mathlib.Core.Bool.{Bool, true, false, ◌&&◌}
-use Prim.Native.Nat.{ℕ, zero, suc, ◌+◌, ◌-◌, ◌^◌, ◌≤◌, ◌<◌}
-use native.Mathlib.Numerals.{add-one}
+use mathlib.Core.Bool.{true, false}
+use Prim.Native.Nat.{ℕ, zero, suc, ◌+◌, ◌^◌, ◌≤◌, ◌<◌}
 use native.Mathlib.Omega.{arith}
 use lib.Dec.{leb, ltb}
 use borrow.Author.Tests.{le-leb, lt-ltb, le-ltb, leb-true, ltb-true}
 use Rattle.modes.proofs.Bools.{and_l, and_r}
 use Rattle.modes.proofs.Digits.{lt_or_ge}
 use Rattle.report.specs.Reports.{Share, Report, within, all_within, is_open}
-
-pub within_is : (s : Share) → leb s.terms (2 ^ 21) && (leb s.high 1024 && ltb s.low (2 ^ 60)) ≡ within s
-unfolding within
-within_is s = refl
 
 -- a share within its limits
 pub record Limited (s : Share) : Type 0 where
@@ -36,15 +31,6 @@ unfolding within
 within_limits s k = rw (le-leb _ _ k.terms, le-leb _ _ k.high, lt-ltb _ _ k.low)
 
 module _ (f : ℕ → Share) where
-  pub ranks_start : true ≡ all_within f 0
-  unfolding all_within
-  ranks_start = refl
-
-  -- one rank more
-  pub ranks_next : (r : ℕ) (a b : Bool) → a ≡ all_within f r → b ≡ within (f r) → a && b ≡ all_within f (r + 1)
-  unfolding all_within
-  ranks_next r a b ea eb = rw (add-one r, ea, eb)
-
   pub rank_within : (n r : ℕ) → all_within f n ≡ true → r < n → within (f r) ≡ true
   unfolding all_within
   rank_within zero r e h = absurd (omega arith)
@@ -62,22 +48,6 @@ module _ (f : ℕ → Share) where
 module _ (p : Report) where
   pub full : 1024 ≤ p.accepted + p.refused → false ≡ is_open p
   full h = rw (le-ltb _ _ h)
-
-  pub full_accepted : 1024 ≤ p.accepted → false ≡ is_open p
-  full_accepted h = full (omega arith)
-
-  pub full_both : p.accepted < 1024 → 1024 - p.accepted ≤ p.refused → false ≡ is_open p
-  full_both h k = full (omega arith)
-
-  module _ (h : p.accepted < 1024) (k : p.refused < 1024 - p.accepted) where
-    few : p.accepted + p.refused < 1024
-    few = omega arith
-
-    pub total_over : within p.total ≡ false → false ≡ is_open p
-    total_over e = rw (lt-ltb _ _ few, e)
-
-    pub ranks_decide : within p.total ≡ true → all_within p.rank 65 ≡ is_open p
-    ranks_decide e = rw (lt-ltb _ _ few, e)
 
   pub record Open : Type 0 where
     pub few : p.accepted + p.refused < 1024

@@ -43,6 +43,7 @@ pub struct Counted {
 }
 
 // Are the numbers of the share at `at` within their limits? No branch ends it early, since most of them are.
+#[tactic(auto, unfolding(crate::specs::Reports::within))]
 fn is_within(report: &[u64], at: usize) -> bool
     requires { at + 2 < length report.now }
     ensures { result ≡ within (share_in report.now at) }
@@ -53,15 +54,14 @@ fn is_within(report: &[u64], at: usize) -> bool
 }
 
 // Are the shares of all ranks?
+#[tactic(auto, unfolding(crate::specs::Reports::all_within))]
 fn ranks_within(report: &[u64]) -> bool
     requires { length report.now ≡ 201 }
     ensures { result ≡ all_within (report_in report.now).rank 65 }
 {
     let mut all = true;
-    let mut r = 0;
-    while r < RANKS {
-        all = all & is_within(report, RANK_0 + 3 * r);
-        r += 1;
+    for r in 0..RANKS {
+        all &= is_within(report, RANK_0 + 3 * r);
     }
     all
 }
@@ -84,6 +84,7 @@ fn is_open(report: &[u64]) -> bool
 }
 
 // n terms more, of the weight w, in the share at `at`. Of most ranks a record has none, and then nothing is stored.
+#[tactic(auto, unfolding(crate::specs::Reports::within))]
 fn grow_share(report: &mut [u64], at: usize, n: u64, w: u64)
     requires { (at + 2 < length report.old) × (within (share_in report.old at) ≡ true) × (n ≤ 2 ^ 21) × (w ≤ 2 ^ 60) × (n ≡ 0 → w ≡ 0) }
     ensures { Grown at n w report.old report.new }
@@ -102,10 +103,8 @@ fn merge(report: &mut [u64], terms: &[u64; 65], weights: &[u64; 65])
     requires { Mergeable report.old terms.now weights.now }
     ensures { Merged terms.now weights.now report.old report.new }
 {
-    let mut r = 0;
-    while r < RANKS {
+    for r in 0..RANKS {
         grow_share(report, RANK_0 + 3 * r, terms[r], weights[r]);
-        r += 1;
     }
 }
 

@@ -11,20 +11,20 @@ use borrow.Author.Rules.{rules}
 use Rattle.branches.proofs.of_all.Goals as goal
 
 pub loop-i-init : goal.loop-i-init
-loop-i-init c = (search rules, counts_start _)
+loop-i-init c = counts_start _
 
 pub more-so_far-requires : goal.more-so_far-requires
-more-so_far-requires c = (c.loop-i.invariant.1.small, rw c.of_term.ensures (up_small _))
+more-so_far-requires c = (c.loop-i.invariant.small, rw c.of_term.ensures (up_small _))
 
 pub loop-i-preserved : goal.loop-i-preserved
 loop-i-preserved c =
     let s = c.args in
     let v = c.loop-i in
     let next = by_front ◌+◌ 0 (λ (t : Term). branches_with t (terms_in s.b.now s.nb)) c.read_term-t.ensures in
-    (search rules, counted _ _ v.invariant.1 next c.of_term.ensures c.more-so_far.ensures)
+    counted _ _ v.invariant next c.of_term.ensures c.more-so_far.ensures
 
 pub returns : goal.returns
 returns c =
     let s = c.args in
     let v = c.loop-i in
-    all_counted v.invariant.1 (by_nothing ◌+◌ 0 (λ (t : Term). branches_with t (terms_in s.b.now s.nb)) (none_left s.a.now s.na v.i (omega arith)))
+    all_counted v.invariant (by_nothing ◌+◌ 0 (λ (t : Term). branches_with t (terms_in s.b.now s.nb)) (none_left s.a.now s.na v.i (omega arith)))

@@ -1,4 +1,3 @@
-use Prim.Native.Nat.{◌-◌, ◌≤◌}
 use lib.ListN.{drop}
 use Rattle.record.specs.Layout.{terms_in}
 use Rattle.pairs.specs.Products.{branches_of_all}
@@ -7,8 +6,4 @@ use Rattle.branches.proofs.of_all.Given as goal
 
 abbrev pub invariant-loop-i : goal.invariant-loop-i
 invariant-loop-i l =
-    (l.i ≤ l.na)
-    × Counts l.so_far (branches_of_all (drop l.i (terms_in l.a l.na)) (terms_in l.b l.nb)) (branches_of_all (terms_in l.a l.na) (terms_in l.b l.nb))
-
-abbrev pub decreases-loop-i : goal.decreases-loop-i
-decreases-loop-i l = l.na - l.i
+    Counts l.so_far (branches_of_all (drop l.i (terms_in l.a l.na)) (terms_in l.b l.nb)) (branches_of_all (terms_in l.a l.na) (terms_in l.b l.nb))

@@ -9,20 +9,20 @@ use borrow.Author.Rules.{rules}
 use Rattle.branches.proofs.of_term.Goals as goal
 
 pub loop-j-init : goal.loop-j-init
-loop-j-init c = (search rules, counts_start _)
+loop-j-init c = counts_start _
 
 pub more-so_far-requires : goal.more-so_far-requires
-more-so_far-requires c = (c.loop-j.invariant.1.small, rw c.of_pair.ensures (up_small _))
+more-so_far-requires c = (c.loop-j.invariant.small, rw c.of_pair.ensures (up_small _))
 
 pub loop-j-preserved : goal.loop-j-preserved
 loop-j-preserved c =
     let s = c.args in
     let v = c.loop-j in
     let next = by_front ◌+◌ 0 (branches_of s.t) c.read_term-u.ensures in
-    (search rules, counted _ _ v.invariant.1 next c.of_pair.ensures c.more-so_far.ensures)
+    counted _ _ v.invariant next c.of_pair.ensures c.more-so_far.ensures
 
 pub returns : goal.returns
 returns c =
     let s = c.args in
     let v = c.loop-j in
-    all_counted v.invariant.1 (by_nothing ◌+◌ 0 (branches_of s.t) (none_left s.b.now s.n v.j (omega arith)))
+    all_counted v.invariant (by_nothing ◌+◌ 0 (branches_of s.t) (none_left s.b.now s.n v.j (omega arith)))

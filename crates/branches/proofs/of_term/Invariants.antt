@@ -1,4 +1,3 @@
-use Prim.Native.Nat.{◌-◌, ◌≤◌}
 use lib.ListN.{drop}
 use Rattle.record.specs.Layout.{terms_in}
 use Rattle.pairs.specs.Products.{branches_with}
@@ -6,7 +5,4 @@ use Rattle.branches.proofs.Ceiling.{Counts}
 use Rattle.branches.proofs.of_term.Given as goal
 
 abbrev pub invariant-loop-j : goal.invariant-loop-j
-invariant-loop-j l = (l.j ≤ l.n) × Counts l.so_far (branches_with l.t (drop l.j (terms_in l.b l.n))) (branches_with l.t (terms_in l.b l.n))
-
-abbrev pub decreases-loop-j : goal.decreases-loop-j
-decreases-loop-j l = l.n - l.j
+invariant-loop-j l = Counts l.so_far (branches_with l.t (drop l.j (terms_in l.b l.n))) (branches_with l.t (terms_in l.b l.n))

@@ -1,15 +1,11 @@
 -- `report::count_record` meets its contract.
 use mathlib.Core.Path.{sym, ◌∙◌}
 use Rattle.record.proofs.Accepted.{refusal_told}
-use Rattle.report.proofs.Counting.{not_taken, refused_fits, one_refused, countable, one_accepted}
+use Rattle.report.proofs.Counting.{not_taken, one_refused, countable, one_accepted}
 use Rattle.report.proofs.count_record.Goals as goal
 
 pub returns-then-not-is_open : goal.returns-then-not-is_open
 returns-then-not-is_open c = not_taken _ _ (sym c.is_open.ensures ∙ c.if-not-is_open.true)
-
-pub overflow_add-report : goal.overflow_add-report
-overflow_add-report c =
-    record { fits = refused_fits c.args.report.now (sym c.is_open.ensures ∙ c.if-not-is_open.false) }
 
 pub returns-then-own-ne0 : goal.returns-then-own-ne0
 returns-then-own-ne0 c =
