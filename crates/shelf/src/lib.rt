@@ -7,6 +7,7 @@ ghost use Rattle.shelf.specs.Placing.{reach_of, Placeable};
 ghost use Rattle.shelf.specs.Steps.{Clear, By, shelf_refusal, step};
 
 use modes::Refusal;
+use slots::HALF;
 
 // The bytes of a shelf.
 pub const SHELF: usize = 65536;
@@ -97,17 +98,16 @@ fn reach_of(party: u64, size: usize) -> Reach
             end: 0,
         };
     }
-    let start = slots::HALF * (party as usize);
+    let start = HALF * (party as usize);
     Reach {
         refusal: Refusal::NONE,
         start,
-        end: start + slots::HALF,
+        end: start + HALF,
     }
 }
 
 // 19, then 22.
-fn slot_refusal(half: &[u8], slot: u64) -> Refusal
-    requires { length half.now ≡ 32768 }
+fn slot_refusal(half: &[u8; HALF], slot: u64) -> Refusal
     ensures { result ≡ slot_refusal half.now slot }
 {
     if !slots::is_whole(half) {
@@ -123,18 +123,16 @@ fn slot_refusal(half: &[u8], slot: u64) -> Refusal
 }
 
 // The record `a` into a half that is not damaged: 20, 21, or its slot.
-fn place_in(half: &mut [u8], a: &[u8]) -> Shelved
+fn place_in(half: &mut [u8; HALF], a: &[u8]) -> Shelved
     requires { Placeable half.old a.now }
     ensures { Leaves (on_half (Put a.now) half.old) result [] half.new }
 {
-    let slot = slots::free_slot(half);
-    if slots::SLOTS <= slot {
+    let Some(slot) = slots::free_slot(half) else {
         return Shelved::refused(NO_FREE_SLOT);
-    }
-    let place = slots::gap_for(half, a.len());
-    if slots::HALF <= place {
+    };
+    let Some(place) = slots::gap_for(half, a.len()) else {
         return Shelved::refused(NO_GAP);
-    }
+    };
     slots::hold(half, slot, place, a);
     Shelved {
         refusal: Refusal::NONE,
@@ -144,8 +142,7 @@ fn place_in(half: &mut [u8], a: &[u8]) -> Shelved
 }
 
 // A half judged, then the record, before it is placed.
-fn put_in(half: &mut [u8], a: &[u8]) -> Shelved
-    requires { length half.old ≡ 32768 }
+fn put_in(half: &mut [u8; HALF], a: &[u8]) -> Shelved
     ensures { Leaves (on_half (Put a.now) half.old) result [] half.new }
 {
     if !slots::is_whole(half) {
@@ -168,8 +165,7 @@ fn refuse(out: &mut [u8], refusal: Refusal) -> Shelved
 }
 
 // A copy of what slot `slot` holds, with zeros past it. The record is not checked again.
-fn get_in(half: &[u8], slot: u64, out: &mut [u8]) -> Shelved
-    requires { length half.now ≡ 32768 }
+fn get_in(half: &[u8; HALF], slot: u64, out: &mut [u8]) -> Shelved
     ensures { Leaves (on_half (Get slot (length out.old)) half.now) result out.new half.now }
 {
     let r = slot_refusal(half, slot);
@@ -191,8 +187,7 @@ fn get_in(half: &[u8], slot: u64, out: &mut [u8]) -> Shelved
 }
 
 // Record and entry to zero.
-fn drop_in(half: &mut [u8], slot: u64) -> Shelved
-    requires { length half.old ≡ 32768 }
+fn drop_in(half: &mut [u8; HALF], slot: u64) -> Shelved
     ensures { Leaves (on_half (Drop slot) half.old) result [] half.new }
 {
     let r = slot_refusal(half, slot);
@@ -231,9 +226,9 @@ pub fn put(shelf: &mut [u8], party: u64, a: &[u8]) -> Shelved
         let refusal = r.refusal;
         return Shelved::refused(refusal);
     }
-    let start = r.start;
-    let end = r.end;
-    put_in(&mut shelf[start..end], a)
+    let (_, from_start) = shelf.split_at_mut(r.start);
+    let half = from_start.first_chunk_mut().unwrap();
+    put_in(half, a)
 }
 
 // A copy of the party's record.
@@ -245,9 +240,8 @@ pub fn get(shelf: &[u8], party: u64, slot: u64, out: &mut [u8]) -> Shelved
         let refusal = r.refusal;
         return refuse(out, refusal);
     }
-    let start = r.start;
-    let end = r.end;
-    get_in(&shelf[start..end], slot, out)
+    let half = shelf[r.start..r.end].as_array().unwrap();
+    get_in(half, slot, out)
 }
 
 // The party's record dropped.
@@ -259,7 +253,7 @@ pub fn drop(shelf: &mut [u8], party: u64, slot: u64) -> Shelved
         let refusal = r.refusal;
         return Shelved::refused(refusal);
     }
-    let start = r.start;
-    let end = r.end;
-    drop_in(&mut shelf[start..end], slot)
+    let (_, from_start) = shelf.split_at_mut(r.start);
+    let half = from_start.first_chunk_mut().unwrap();
+    drop_in(half, slot)
 }

@@ -1,16 +1,17 @@
 -- The search for room: from one place to the next, past each record that is met.
-use mathlib.Core.Path.{◌≡◌, refl, sym, ◌∙◌}
+use mathlib.Core.Path.{◌≡◌, refl, sym}
 use mathlib.Core.Bool.{Bool, true, false, ◌&&◌, ◌||◌, true≢false}
 use mathlib.Core.Logic.{⊎_elim}
 use mathlib.Core.List.{List}
-use Prim.Native.Nat.{ℕ, ◌+◌, ◌-◌, ◌*◌, ◌≤◌, ◌<◌}
+use Prim.Native.Nat.{ℕ, ◌+◌, ◌-◌, ◌≤◌, ◌<◌}
 use native.Mathlib.Omega.{arith}
 use lib.Dec.{leb}
 use borrow.Author.Tests.{lt-leb, leb-false}
 use Rattle.modes.proofs.Digits.{lt_or_ge}
 use Rattle.modes.proofs.LowestMode.{lowest_one}
 use Rattle.slots.specs.Half.{place_of, length_of, apart, meets_none, is_whole, is_room, gap_for}
-use Rattle.slots.proofs.Wholes.{each_not, lowest_all, apart_either, inside_half, Room, room_so}
+use Rattle.slots.specs.Gaps.{Met}
+use Rattle.slots.proofs.Wholes.{each_not, lowest_all, clear_is, inside_half, Room, room_so}
 
 -- two stretches that meet
 or_neither : (a b : Bool) → a || b ≡ false → (a ≡ false) × (b ≡ false)
@@ -50,50 +51,38 @@ module _ (h : List ℕ) (n q : ℕ) where
   unfolding is_room meets_none
   taken i l a b = third_false (leb 512 q) (leb (q + n) 32768) _ (each_not 16 _ i l (meets _ _ _ _ b a))
 
--- no place below p has room, and at p the records of the slots below i are not met
-pub record Searching (h : List ℕ) (n p i : ℕ) : Type 0 where
+-- no place below p has room
+pub record Searching (h : List ℕ) (n p : ℕ) : Type 0 where
   pub past : 512 ≤ p
   pub inside : p ≤ 32768
-  pub slots : i ≤ 16
   pub none : (q : ℕ) → q < p → is_room h n q ≡ false
-  pub clear : (j : ℕ) → j < i → apart (place_of h j) (length_of h j) p n ≡ true
 
 module _ (h : List ℕ) (n : ℕ) where
-  pub search_starts : Searching h n 512 0
-  search_starts =
-      record { past = omega arith; inside = omega arith; slots = omega arith; none = λ q l. low h n q l; clear = λ j l. absurd (omega arith) }
+  pub search_starts : Searching h n 512
+  search_starts = record { past = omega arith; inside = omega arith; none = λ q l. low h n q l }
 
-  module _ (p i : ℕ) (s : Searching h n p i) where
-    pub search_goes : i < 16 → (b : Bool) → b ≡ apart (place_of h i) (length_of h i) p n → b ≡ true → Searching h n p (i + 1)
-    search_goes l b is t =
-        record { past = s.past; inside = s.inside; slots = omega arith; none = s.none; clear = λ j k. ⊎_elim (s.clear j) (last j k) (lt_or_ge j i) }
-      where
-        last : (j : ℕ) → j < i + 1 → i ≤ j → apart (place_of h j) (length_of h j) p n ≡ true
-        last j k m = let e : j ≡ i = omega arith in rw e (sym is ∙ t)
-
+  module _ (p : ℕ) (s : Searching h n p) where
     -- past a record that is met
-    module _ (l : i < 16) (b : Bool) (is : b ≡ apart (place_of h i) (length_of h i) p n) (f : b ≡ false) where
-      both : (p < place_of h i + length_of h i) × (place_of h i < p + n)
-      both = meeting _ _ _ _ (sym is ∙ f)
+    module _ (e : ℕ) (m : Met h p n e) where
+      both : (p < place_of h m.slot + length_of h m.slot) × (place_of h m.slot < p + n)
+      both = meeting _ _ _ _ m.meets
 
-      pub search_jumps : is_whole h ≡ true → Searching h n (place_of h i + length_of h i) 0
+      pub search_jumps : is_whole h ≡ true → Searching h n e
       search_jumps whole =
           record {
-            past = omega (arith, s.past, both.0);
-            inside = inside_half h whole i l;
-            slots = omega arith;
-            none = λ q k. ⊎_elim (s.none q) (λ m. taken h n q i l (omega (arith, both.1)) k) (lt_or_ge q p);
-            clear = λ j k. absurd (omega arith);
+            past = omega (arith, s.past, both.0, m.ends);
+            inside = omega (arith, inside_half h whole m.slot m.low, m.ends);
+            none = λ q k. ⊎_elim (s.none q) (λ l. taken h n q m.slot m.low (omega (arith, both.1)) (omega (arith, m.ends))) (lt_or_ge q p);
           }
 
       -- which cannot go on for ever
-      pub search_less : is_whole h ≡ true → 17 * (32768 - (place_of h i + length_of h i)) + (16 - 0) < 17 * (32768 - p) + (16 - i)
-      search_less whole = omega (arith, both.0, inside_half h whole i l)
+      pub search_less : is_whole h ≡ true → 32768 - e < 32768 - p
+      search_less whole = omega (arith, both.0, m.ends, inside_half h whole m.slot m.low)
 
-    pub search_finds : 16 ≤ i → 0 < n → p + n ≤ 32768 → p ≡ gap_for h n
-    search_finds l pos fits =
-        let room : Room h n p = record { past = s.past; inside = fits; clear = λ j k. apart_either _ _ _ _ (s.clear j (omega arith)) } in
+    pub search_finds : meets_none h 16 p n ≡ true → p + n ≤ 32768 → 0 < n → p ≡ gap_for h n
+    search_finds clear fits pos =
+        let room : Room h n p = record { past = s.past; inside = fits; clear = clear_is h 16 p n clear } in
         sym (lowest_one 32768 (is_room h n) p (omega arith) (room_so h n p room) s.none)
 
-    pub search_fails : 32768 < p + n → 32768 ≡ gap_for h n
-    search_fails far = sym (lowest_all 32768 (is_room h n) (λ q k. ⊎_elim (s.none q) (λ m. high h n q (omega arith)) (lt_or_ge q p)))
+    pub search_fails : 32768 < p + n → gap_for h n ≡ 32768
+    search_fails far = lowest_all 32768 (is_room h n) (λ q k. ⊎_elim (s.none q) (λ m. high h n q (omega arith)) (lt_or_ge q p))

@@ -1,6 +1,6 @@
 -- What lies in the gaps of a half, and where a gap starts.
 use Rattle.std.specs.Prelude.{◌≡◌, false, ◌⊎◌, List, ℕ, ◌+◌, ◌≤◌, ◌<◌, get_or}
-use Rattle.slots.specs.Half.{place_of, length_of, is_free}
+use Rattle.slots.specs.Half.{place_of, length_of, is_free, apart}
 
 -- byte k stands before n bytes from p on, or past them
 abbrev pub Outside : ℕ → ℕ → ℕ → Type 0
@@ -23,3 +23,10 @@ pub record Ends (h : List ℕ) (p i : ℕ) : Type 0 where
 -- p is where the entries end, or where some record ends
 abbrev pub Starts : List ℕ → ℕ → Type 0
 Starts h p = (p ≡ 512) ⊎ ((i : ℕ) × Ends h p i)
+
+-- a record that ends at e meets n bytes from p on
+pub record Met (h : List ℕ) (p n e : ℕ) : Type 0 where
+  pub slot : ℕ
+  pub low : slot < 16
+  pub meets : apart (place_of h slot) (length_of h slot) p n ≡ false
+  pub ends : place_of h slot + length_of h slot ≡ e

@@ -1,5 +1,6 @@
 -- `shelf::drop_in` meets its contract: 19, 22, or record and entry wiped.
 use mathlib.Core.Path.{refl}
+use native.Mathlib.Omega.{arith}
 use Rattle.slots.proofs.Wholes.{inside_half}
 use Rattle.shelf.proofs.Refusals.{none_told, slot_used}
 use Rattle.shelf.proofs.Answering.{half_refuses, drop_leaves}
@@ -11,17 +12,17 @@ returns-then-r-ne0 c =
 
 pub place_of-place-requires : goal.place_of-place-requires
 place_of-place-requires c =
-    (c.requires, (slot_used _ _ (none_told _ _ c.slot_refusal-r.ensures c.if-r-ne0.false)).slot)
+    (slot_used _ _ (none_told _ _ c.slot_refusal-r.ensures c.if-r-ne0.false)).slot
 
 pub length_of-len-requires : goal.length_of-len-requires
 length_of-len-requires c =
-    (c.requires, (slot_used _ _ (none_told _ _ c.slot_refusal-r.ensures c.if-r-ne0.false)).slot)
+    (slot_used _ _ (none_told _ _ c.slot_refusal-r.ensures c.if-r-ne0.false)).slot
 
 pub release-requires : goal.release-requires
 release-requires c =
     let found = slot_used _ _ (none_told _ _ c.slot_refusal-r.ensures c.if-r-ne0.false) in
     let inside = inside_half _ found.whole _ found.slot in
-    (c.requires, found.slot, rw (c.place_of-place.ensures.0, c.length_of-len.ensures.0) inside)
+    (found.slot, omega (arith, inside))
 
 pub returns : goal.returns
 returns c =

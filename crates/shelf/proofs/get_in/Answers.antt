@@ -12,11 +12,11 @@ returns-then-r-ne0 c =
 
 pub place_of-place-requires : goal.place_of-place-requires
 place_of-place-requires c =
-    (c.requires, (slot_used _ _ (none_told _ _ c.slot_refusal-r.ensures c.if-r-ne0.false)).slot)
+    (slot_used _ _ (none_told _ _ c.slot_refusal-r.ensures c.if-r-ne0.false)).slot
 
 pub length_of-len-requires : goal.length_of-len-requires
 length_of-len-requires c =
-    (c.requires, (slot_used _ _ (none_told _ _ c.slot_refusal-r.ensures c.if-r-ne0.false)).slot)
+    (slot_used _ _ (none_told _ _ c.slot_refusal-r.ensures c.if-r-ne0.false)).slot
 
 pub returns-then-out-len : goal.returns-then-out-len
 returns-then-out-len c =
@@ -27,7 +27,7 @@ returns-then-out-len c =
 pub slice_bounds-copy-end : goal.slice_bounds-copy-end
 slice_bounds-copy-end c =
     let found = slot_used _ _ (none_told _ _ c.slot_refusal-r.ensures c.if-r-ne0.false) in
-    rw (c.place_of-place.ensures.0, c.length_of-len.ensures.0, c.requires) (inside_half _ found.whole _ found.slot)
+    rw (c.place_of-place.ensures.0, c.length_of-len.ensures.0) (inside_half _ found.whole _ found.slot)
 
 pub returns : goal.returns
 returns c =
@@ -36,4 +36,4 @@ returns c =
     let place = c.place_of-place.ensures.0 in
     let long = c.length_of-len.ensures.0 in
     let told = get_fits _ _ _ none_yet (rw long at c.if-out-len.false) in
-    get_leaves _ _ _ _ _ _ told (rw (place, long, c.requires) (inside_half _ found.whole _ found.slot)) place long c.if-out-len.false c.copy.ensures _ c.wipe_from.ensures
+    get_leaves _ _ _ _ _ _ told (rw (place, long, c.told-half) (inside_half _ found.whole _ found.slot)) place long c.if-out-len.false c.copy.ensures _ c.wipe_from.ensures

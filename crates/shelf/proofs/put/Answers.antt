@@ -2,7 +2,7 @@
 use mathlib.Core.Path.{refl}
 use native.Mathlib.Omega.{arith}
 use Rattle.shelf.proofs.Answering.{shelf_refuses}
-use Rattle.shelf.proofs.Reaching.{reach_told, reach_ordered, reach_inside, reach_long, lent_leaves}
+use Rattle.shelf.proofs.Reaching.{reach_told, reach_room, lent_leaves}
 use Rattle.shelf.proofs.put.Goals as goal
 
 pub returns-then-r-ne0 : goal.returns-then-r-ne0
@@ -10,19 +10,16 @@ returns-then-r-ne0 c =
     let told = reach_told _ _ _ c.reach_of-r.ensures in
     shelf_refuses _ _ _ _ _ _ told c.if-r-ne0.true c.refused.ensures refl
 
-pub slice_bounds-put_in-count : goal.slice_bounds-put_in-count
-slice_bounds-put_in-count c = omega (arith, reach_ordered _ _ _ c.reach_of-r.ensures c.if-r-ne0.false)
+pub split_at_mut-from_start-requires : goal.split_at_mut-from_start-requires
+split_at_mut-from_start-requires c = omega (arith, reach_room _ _ _ c.reach_of-r.ensures c.if-r-ne0.false)
 
-pub slice_bounds-put_in-start : goal.slice_bounds-put_in-start
-slice_bounds-put_in-start c = reach_ordered _ _ _ c.reach_of-r.ensures c.if-r-ne0.false
-
-pub slice_bounds-put_in-end : goal.slice_bounds-put_in-end
-slice_bounds-put_in-end c = reach_inside _ _ _ c.reach_of-r.ensures c.if-r-ne0.false
-
-pub put_in-requires : goal.put_in-requires
-put_in-requires c =
-    reach_long _ _ _ c.reach_of-r.ensures c.if-r-ne0.false
+pub unwrap-half-requires : goal.unwrap-half-requires
+unwrap-half-requires c =
+    let room = reach_room _ _ _ c.reach_of-r.ensures c.if-r-ne0.false in
+    c.first_chunk_mut.ensures.variant.1 (omega (arith, room))
 
 pub returns : goal.returns
 returns c =
-    lent_leaves _ _ _ c.reach_of-r.ensures c.if-r-ne0.false _ _ _ _ c.put_in.ensures
+    let chunk = rw c.unwrap-half.ensures at c.first_chunk_mut.ensures.cases in
+    let parts = c.split_at_mut-from_start.ensures in
+    lent_leaves _ _ _ c.reach_of-r.ensures c.if-r-ne0.false _ _ _ _ _ _ _ parts.front parts.back chunk.same c.put_in.ensures

@@ -20,7 +20,7 @@ returns-then-c-ne0 c =
 pub place_in-requires : goal.place_in-requires
 place_in-requires c =
     record {
-      size = c.requires;
+      size = c.told-half;
       whole = sym c.is_whole.ensures ∙ c.if-not-is_whole.false;
       accepted = none_told _ _ (refusal_told 1 _ _ c.check-c.ensures) c.if-c-ne0.false;
     }

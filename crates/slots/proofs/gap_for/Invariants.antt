@@ -1,9 +1,9 @@
-use Prim.Native.Nat.{◌+◌, ◌-◌, ◌*◌}
+use Prim.Native.Nat.{◌-◌}
 use Rattle.slots.proofs.Gaps.{Searching}
 use Rattle.slots.proofs.gap_for.Given as goal
 
-abbrev pub invariant-loop-i : goal.invariant-loop-i
-invariant-loop-i l = Searching l.h l.n l.p l.i
+abbrev pub invariant-loop-end : goal.invariant-loop-end
+invariant-loop-end l = Searching l.h l.n l.p
 
-abbrev pub decreases-loop-i : goal.decreases-loop-i
-decreases-loop-i l = 17 * (32768 - l.p) + (16 - l.i)
+abbrev pub decreases-loop-end : goal.decreases-loop-end
+decreases-loop-end l = 32768 - l.p

@@ -4,5 +4,5 @@ use Rattle.slots.proofs.hold.Goals as goal
 
 pub returns : goal.returns
 returns c =
-    held _ _ c.requires.0 c.requires.1 _ _ _ _ _ _ c.requires.2 c.copy.ensures c.put_half.ensures c.put_half-2.ensures
+    held _ _ c.told-h c.requires.0 _ _ _ _ _ _ c.requires.1 c.copy.ensures c.put_half.ensures c.put_half-2.ensures
     c.wipe.ensures

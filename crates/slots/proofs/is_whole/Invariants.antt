@@ -1,4 +1,3 @@
-use Prim.Native.Nat.{◌-◌, ◌≤◌}
 use mathlib.Core.Path.{◌≡◌}
 use mathlib.Core.Bool.{true}
 use Rattle.modes.specs.Words.{each}
@@ -6,7 +5,4 @@ use Rattle.slots.proofs.Wholes.{is_right}
 use Rattle.slots.proofs.is_whole.Given as goal
 
 abbrev pub invariant-loop-i : goal.invariant-loop-i
-invariant-loop-i l = (l.i ≤ 16) × (each l.i (is_right l.h) ≡ true)
-
-abbrev pub decreases-loop-i : goal.decreases-loop-i
-decreases-loop-i l = 16 - l.i
+invariant-loop-i l = each l.i (is_right l.h) ≡ true
