@@ -1,4 +1,3 @@
-pub mod Filling
 pub mod InRows
 pub mod Cases
 pub mod Blocking

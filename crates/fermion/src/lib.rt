@@ -1,7 +1,7 @@
 // The C face: each function fills its answer whole, on every way out, as include/fermion.h says.
 #![tactic(auto)]
 
-ghost use Rattle.std.specs.Prelude.{◌≡◌, cond, [], ◌∷◌, length};
+ghost use Rattle.std.specs.Prelude.{◌≡◌, ◌+◌, ◌*◌, ◌<◌, cond, [], ◌∷◌, ◌++◌, length, take, drop};
 ghost use Rattle.record.specs.Operands.{read_as};
 ghost use Rattle.products.specs.Apply.{applied};
 ghost use Rattle.products.specs.Product.{multiplied};
@@ -11,7 +11,7 @@ ghost use Rattle.branches.specs.Branches.{branches_told};
 ghost use Rattle.adjoint.specs.Adjoint.{adjointed};
 ghost use Rattle.adjoint.specs.Hermitian.{hermitian_of};
 ghost use Rattle.mat_elem.specs.Elements.{element_of};
-ghost use Rattle.mat_elem.specs.Matrix.{EightRows, projected_of};
+ghost use Rattle.mat_elem.specs.Matrix.{EightNumbers, EightRows, projected_of};
 ghost use Rattle.float_elem.specs.Answers.{told_by};
 ghost use Rattle.float_elem.specs.Elements.{float_element};
 ghost use Rattle.compare.specs.Comparison.{compared_of};
@@ -27,7 +27,7 @@ ghost use Rattle.fermion.specs.Face.{float_values, float_answer, FillsFloat, com
 
 use figures::Measured;
 use float_elem::FloatElement;
-use mat_elem::Projected;
+use mat_elem::{Projected, Row};
 use modes::{Refusal, Written};
 use products::{ApplyResult, Blocked};
 use record::Tested;
@@ -335,6 +335,14 @@ pub extern "C" fn fermion_compare(a: &[u8], b: &[u8], answer: &mut [u64; 8])
     *answer = answer_of(c.refusal, flag(c.equal), c.bra, c.ket);
 }
 
+// the i-th row to its eight numbers
+fn put_row(m: &mut [i64; 64], i: usize, row: Row)
+    requires { (i < 8) × EightNumbers row }
+    ensures { m.new ≡ take (8 * i) m.old ++ (row.entries ++ drop (8 * i + 8) m.old) }
+{
+    m[8 * i..8 * i + 8].copy_from_slice(&row.entries);
+}
+
 // the eight rows one after the other
 fn in_rows(p: Projected) -> [i64; 64]
     requires { EightRows p.rows }
@@ -342,13 +350,8 @@ fn in_rows(p: Projected) -> [i64; 64]
 {
     let rows = p.rows;
     let mut m = [0i64; 64];
-    let mut k = 0;
-    while k < 64 {
-        let i = k / 8;
-        let j = k % 8;
-        let row = rows[i];
-        m[k] = row.entries[j];
-        k += 1;
+    for i in 0..8 {
+        put_row(&mut m, i, rows[i]);
     }
     m
 }
