@@ -4,11 +4,12 @@ use Prim.Native.Nat.{ℕ, ◌*◌, ◌/◌, ◌^◌, ◌≤◌, ◌<◌}
 use native.Mathlib.Nat.{div-lt_iff_lt-mul, le-div_iff_mul-le, mul_comm, zero-mul}
 use native.Mathlib.Omega.{arith}
 use borrow.Author.Tests.{le-leb, lt-leb}
-use Rattle.modes.specs.Answers.{refusal, none}
+use Rattle.std.specs.Prelude.{Err}
+use Rattle.modes.specs.Answers.{product_too_heavy, none}
 use Rattle.multiply.specs.Answers.{weight_refusal}
 
 module _ (v w : ℕ) where
-  pub too_heavy : (v ≡ 0 → ⊥) → 2 ^ 60 / v < w → refusal 8 0 0 ≡ weight_refusal v w
+  pub too_heavy : (v ≡ 0 → ⊥) → 2 ^ 60 / v < w → Err product_too_heavy ≡ weight_refusal v w
   unfolding weight_refusal
   too_heavy n h =
       let over : 2 ^ 60 < w * v = (div-lt_iff_lt-mul {k = v} (omega arith)).0 h in

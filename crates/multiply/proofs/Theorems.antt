@@ -10,6 +10,7 @@ use lib.Pow.{pow_mono}
 use Rattle.record.specs.Operands.{read_as}
 use Rattle.modes.specs.declared.Term.{Term}
 use Rattle.modes.specs.declared.Written.{Written}
+use Rattle.std.specs.Prelude.{Ok}
 use Rattle.modes.specs.Answers.{none}
 use Rattle.modes.specs.Every.{Every, none as nothing}
 use Rattle.modes.proofs.Every.{every_implies, every_append, every_list}
@@ -58,18 +59,17 @@ wider m h ts = every_implies ts (λ t k. record { ann = lt_of_lt_of_le k.ann (po
 
 -- ---- the bytes that a call leaves where it is not refused
 
-module _ (both minus : Bool) (work room : ℕ) (a b : List ℕ) (r : Written) (after : List ℕ) (g : Gives (product_answer both minus work room (read_as 1 a) (read_as 2 b)) r after)
-    (z : r.refusal.number ≡ 0) where
+module _ (both minus : Bool) (work room : ℕ) (a b : List ℕ) (r : Written) (after : List ℕ) (g : Gives (product_answer both minus work room (read_as 1 a) (read_as 2 b)) (Ok r) after) where
   abbrev rows : List Term
   rows = all_rows both minus (terms_of a) (terms_of b)
 
   abbrev branches : ℕ
   branches = all_branches both (terms_of a) (terms_of b)
 
-  fine : ((early_refusal both work (read_as 1 a) (read_as 2 b)).number ≡ 0) × ((result_refusal room (length (normal rows)) (weight (normal rows))).number ≡ 0)
-  fine = none_refused room branches (early_refusal both work (read_as 1 a) (read_as 2 b)) _ (modes_of a) (normal rows) r after g z
+  fine : (early_refusal both work (read_as 1 a) (read_as 2 b) ≡ none) × (result_refusal room (length (normal rows)) (weight (normal rows)) ≡ none)
+  fine = none_refused room branches (early_refusal both work (read_as 1 a) (read_as 2 b)) _ (modes_of a) (normal rows) r after g
 
-  pair : (operands_refusal (read_as 1 a) (read_as 2 b)).number ≡ 0
+  pair : operands_refusal (read_as 1 a) (read_as 2 b) ≡ none
   pair = (neither (operands_refusal (read_as 1 a) (read_as 2 b)) (or_else (weight_refusal (weight (terms_of a)) (weight (terms_of b))) (work_refusal work branches)) fine.0).0
 
   left : Canonical (modes_of a) (terms_of a)
@@ -84,13 +84,13 @@ module _ (both minus : Bool) (work room : ℕ) (a b : List ℕ) (r : Written) (a
 
   -- the output's record is accepted
   pub product_accepted : (o : ℕ) → refusal_of o (take r.len after) ≡ none
-  product_accepted = output_accepted room branches (early_refusal both work (read_as 1 a) (read_as 2 b)) _ (modes_of a) (normal rows) r after g z form
+  product_accepted = output_accepted room branches (early_refusal both work (read_as 1 a) (read_as 2 b)) _ (modes_of a) (normal rows) r after g form
 
   pub product_modes : modes_of (take r.len after) ≡ modes_of a
-  product_modes = output_modes room branches (early_refusal both work (read_as 1 a) (read_as 2 b)) _ (modes_of a) (normal rows) r after g z form
+  product_modes = output_modes room branches (early_refusal both work (read_as 1 a) (read_as 2 b)) _ (modes_of a) (normal rows) r after g form
 
   product_terms : terms_of (take r.len after) ≡ normal rows
-  product_terms = output_terms room branches (early_refusal both work (read_as 1 a) (read_as 2 b)) _ (modes_of a) (normal rows) r after g z form
+  product_terms = output_terms room branches (early_refusal both work (read_as 1 a) (read_as 2 b)) _ (modes_of a) (normal rows) r after g form
 
   product_elements : (bra ket : ℕ) → element bra ket (terms_of (take r.len after))
       ≡ in_succession bra ket (terms_of a) (terms_of b) +ℤ other both minus (in_succession bra ket (terms_of b) (terms_of a))
@@ -99,23 +99,22 @@ module _ (both minus : Bool) (work room : ℕ) (a b : List ℕ) (r : Written) (a
       ∙ all_elements bra ket both minus (terms_of a) (terms_of b) (wider (modes_of a) left.most (terms_of a) left.inside) (wider (modes_of a) left.most (terms_of b) right)
 
 -- THE PRODUCT: at every bra and ket the record left has the element that b and then a give, ladder by ladder
-pub mul_elements : (work room : ℕ) (a b : List ℕ) (r : Written) (after : List ℕ) → Gives (product_of work room (read_as 1 a) (read_as 2 b)) r after
-    → r.refusal.number ≡ 0
+pub mul_elements : (work room : ℕ) (a b : List ℕ) (r : Written) (after : List ℕ) → Gives (product_of work room (read_as 1 a) (read_as 2 b)) (Ok r) after
     → (bra ket : ℕ)
     → element bra ket (terms_of (take r.len after)) ≡ in_succession bra ket (terms_of a) (terms_of b)
 unfolding other
-mul_elements work room a b r after g z bra ket = product_elements false false work room a b r after g z bra ket ∙ +ℤ_idr (in_succession bra ket (terms_of a) (terms_of b))
+mul_elements work room a b r after g bra ket = product_elements false false work room a b r after g bra ket ∙ +ℤ_idr (in_succession bra ket (terms_of a) (terms_of b))
 
 -- THE COMMUTATOR: minus the other order
-pub commutator_elements : (work room : ℕ) (a b : List ℕ) (r : Written) (after : List ℕ) → Gives (commutator_of work room (read_as 1 a) (read_as 2 b)) r after
-    → r.refusal.number ≡ 0 → (bra ket : ℕ)
+pub commutator_elements : (work room : ℕ) (a b : List ℕ) (r : Written) (after : List ℕ) → Gives (commutator_of work room (read_as 1 a) (read_as 2 b)) (Ok r) after
+    → (bra ket : ℕ)
     → element bra ket (terms_of (take r.len after)) ≡ in_succession bra ket (terms_of a) (terms_of b) +ℤ neg_ℤ (in_succession bra ket (terms_of b) (terms_of a))
 unfolding other
 commutator_elements = product_elements true true
 
 -- THE ANTICOMMUTATOR: plus the other order
-pub anticommutator_elements : (work room : ℕ) (a b : List ℕ) (r : Written) (after : List ℕ) → Gives (anticommutator_of work room (read_as 1 a) (read_as 2 b)) r after
-    → r.refusal.number ≡ 0 → (bra ket : ℕ)
+pub anticommutator_elements : (work room : ℕ) (a b : List ℕ) (r : Written) (after : List ℕ) → Gives (anticommutator_of work room (read_as 1 a) (read_as 2 b)) (Ok r) after
+    → (bra ket : ℕ)
     → element bra ket (terms_of (take r.len after)) ≡ in_succession bra ket (terms_of a) (terms_of b) +ℤ in_succession bra ket (terms_of b) (terms_of a)
 unfolding other
 anticommutator_elements = product_elements true false

@@ -7,31 +7,36 @@ ghost use Rattle.lent.specs.Bytes.{zeros};
 ghost use Rattle.lent.specs.Outputs.{Gives};
 ghost use Rattle.multiply.specs.Answers.{weight_refusal, product_answer, product_of, commutator_of, anticommutator_of, Leaves};
 
-use modes::{Refusal, Sign, Term, Written};
+use modes::{Refusal, Sign, Written};
 
 // Number 8. The product of two weights may pass 64 bits, so it is judged by a quotient.
-fn weight_refusal(v: u64, w: u64) -> Refusal
+fn weight_refusal(v: u64, w: u64) -> Result<(), Refusal>
     ensures { result ≡ weight_refusal v w }
 {
     if v != 0 {
         if record::HEAVIEST / v < w {
-            return Refusal::PRODUCT_TOO_HEAVY;
+            return Err(Refusal::PRODUCT_TOO_HEAVY);
         }
     }
-    Refusal::NONE
+    Ok(())
 }
 
 // The rows of two records that are open, joined and delivered. The work is left as it is, for `finish` wipes it.
-fn produce(both: bool, sign: Sign, a: &[u8], b: &[u8], work: &mut [u8], out: &mut [u8]) -> Written
+fn produce(
+    both: bool,
+    sign: Sign,
+    a: &[u8],
+    b: &[u8],
+    work: &mut [u8],
+    out: &mut [u8],
+) -> Result<Written, Refusal>
     ensures { Gives (product_answer both sign.0 (length work.old) (length out.old) (read_as 1 a.now) (read_as 2 b.now)) result out.new }
 {
-    let p = results::open_operands(a, b);
-    if p.refusal.number != 0 {
-        let refusal = p.refusal;
-        return lent::refuse(out, refusal);
-    }
-    let heavy = weight_refusal(p.left_weight, p.right_weight);
-    if heavy.number != 0 {
+    let p = match results::open_operands(a, b) {
+        Ok(p) => p,
+        Err(refusal) => return lent::refuse(out, refusal),
+    };
+    if let Err(heavy) = weight_refusal(p.left_weight, p.right_weight) {
         return lent::refuse(out, heavy);
     }
     let s = pairs::append_all(both, sign, work, a, p.left, b, p.right);
@@ -43,7 +48,7 @@ fn produce(both: bool, sign: Sign, a: &[u8], b: &[u8], work: &mut [u8], out: &mu
 }
 
 // The one way out of every call: its answer, once the work is wiped.
-fn finish(w: Written, work: &mut [u8]) -> Written
+fn finish(w: Result<Written, Refusal>, work: &mut [u8]) -> Result<Written, Refusal>
     ensures { (result ≡ w) × (work.new ≡ zeros (length work.old)) }
 {
     lent::wipe(work);
@@ -51,7 +56,14 @@ fn finish(w: Written, work: &mut [u8]) -> Written
 }
 
 // One of the three answers, and a work all zero.
-fn multiply(both: bool, sign: Sign, a: &[u8], b: &[u8], work: &mut [u8], out: &mut [u8]) -> Written
+fn multiply(
+    both: bool,
+    sign: Sign,
+    a: &[u8],
+    b: &[u8],
+    work: &mut [u8],
+    out: &mut [u8],
+) -> Result<Written, Refusal>
     ensures { Leaves (product_answer both sign.0 (length work.old) (length out.old) (read_as 1 a.now) (read_as 2 b.now)) result out.new (length work.old) work.new }
 {
     let w = produce(both, sign, a, b, work, out);
@@ -59,21 +71,26 @@ fn multiply(both: bool, sign: Sign, a: &[u8], b: &[u8], work: &mut [u8], out: &m
 }
 
 // The record of the product a b.
-pub fn mul(a: &[u8], b: &[u8], work: &mut [u8], out: &mut [u8]) -> Written
+pub fn mul(a: &[u8], b: &[u8], work: &mut [u8], out: &mut [u8]) -> Result<Written, Refusal>
     ensures { Leaves (product_of (length work.old) (length out.old) (read_as 1 a.now) (read_as 2 b.now)) result out.new (length work.old) work.new }
 {
     multiply(false, Sign::PLUS, a, b, work, out)
 }
 
 // The record of the commutator a b - b a.
-pub fn commutator(a: &[u8], b: &[u8], work: &mut [u8], out: &mut [u8]) -> Written
+pub fn commutator(a: &[u8], b: &[u8], work: &mut [u8], out: &mut [u8]) -> Result<Written, Refusal>
     ensures { Leaves (commutator_of (length work.old) (length out.old) (read_as 1 a.now) (read_as 2 b.now)) result out.new (length work.old) work.new }
 {
     multiply(true, Sign::MINUS, a, b, work, out)
 }
 
 // The record of the anticommutator a b + b a.
-pub fn anticommutator(a: &[u8], b: &[u8], work: &mut [u8], out: &mut [u8]) -> Written
+pub fn anticommutator(
+    a: &[u8],
+    b: &[u8],
+    work: &mut [u8],
+    out: &mut [u8],
+) -> Result<Written, Refusal>
     ensures { Leaves (anticommutator_of (length work.old) (length out.old) (read_as 1 a.now) (read_as 2 b.now)) result out.new (length work.old) work.new }
 {
     multiply(true, Sign::PLUS, a, b, work, out)
