@@ -1,8 +1,7 @@
 -- Counting as far as the ceiling tells whether the whole count is above it, and else is the count.
 use mathlib.Core.Path.{◌≡◌, refl, sym, ap, ◌∙◌, subst}
 use mathlib.Core.Bool.{Bool, true, false}
-use Prim.Native.Nat.{ℕ, ◌+◌, ◌*◌, ◌≤◌, ◌<◌}
-use native.Mathlib.Nat.{zero-add}
+use Prim.Native.Nat.{ℕ, ◌+◌, ◌≤◌, ◌<◌}
 use native.Mathlib.Omega.{arith}
 use lib.Dec.{leb}
 use borrow.Author.Tests.{le-leb, lt-leb, leb-true, leb-false}
@@ -52,9 +51,6 @@ pub record Counts (k left total : ℕ) : Type 0 where
   pub small : k ≤ most + 1
   pub all : up_to (k + left) ≡ up_to total
 
-pub counts_start : (total : ℕ) → Counts 0 total total
-counts_start total = record { small = omega arith; all = ap up_to (zero-add total) }
-
 more : (k x left total : ℕ) → Counts k (x + left) total → Counts (up_to (k + up_to x)) left total
 more k x left total g = record { small = up_small (k + up_to x); all = up_one _ _ (go (reach x) (reach (k + up_to x))) ∙ g.all }
   where
@@ -80,9 +76,6 @@ all_counted {k} {left} {total} g none = go (reach (k + left)) g.all
 -- ---- two counts, added
 
 module _ (m n : ℕ) where
-  pub sum_below : up_to m + up_to n ≤ 2 * most + 2
-  sum_below = omega (arith, up_small m, up_small n)
-
   pub sum_over : most < up_to m + up_to n → most < m + n
   sum_over h = go (reach m) (reach n)
     where

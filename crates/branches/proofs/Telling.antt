@@ -18,7 +18,7 @@ use Rattle.record.specs.Reading.{Holds}
 use Rattle.multiply.specs.Answers.{work_refusal}
 use Rattle.branches.specs.Ceiling.{most, up_to}
 use Rattle.branches.specs.Branches.{counted, uncounted, branches_in, branches_refusal, branches_told}
-use Rattle.branches.proofs.Ceiling.{sum_below, sum_over, sum_exact}
+use Rattle.branches.proofs.Ceiling.{sum_over, sum_exact}
 
 -- 7 for a work of 2^63 bytes
 no_work : (n : ℕ) → most < n → work_refusal (2 ^ 63) n ≡ refusal 7 0 0
@@ -58,9 +58,6 @@ module _ (a b : List ℕ) (p : Opened) (ep : p ≡ opened_of a b) where
 
       backward_is : g ≡ up_to (branches_in (read_as 2 b) (read_as 1 a))
       backward_is = eg ∙ ap₂ (λ (x y : ℕ). up_to (branches_of_all (terms_in b x) (terms_in a y))) ready.right ready.left
-
-      pub sum_fits : f + g ≤ 2 * most + 2
-      sum_fits = rw (forward_is, backward_is) (sum_below (branches_in (read_as 1 a) (read_as 2 b)) (branches_in (read_as 2 b) (read_as 1 a)))
 
       pub too_many : most < f + g → uncounted rows_do_not_fit ≡ branches_told (read_as 1 a) (read_as 2 b)
       too_many h =

@@ -36,6 +36,7 @@ impl BranchCounts {
 }
 
 // Two counts together.
+#[tactic(auto, unfolding(crate::specs::Ceiling::up_to))]
 fn more(x: u64, y: u64) -> u64
     requires { (x ≤ most + 1) × (y ≤ most + 1) }
     ensures { result ≡ up_to (x + y) }
@@ -67,6 +68,7 @@ fn of_pair(t: Term, u: Term) -> u64
 }
 
 // The branches of the term t with each of the n terms of b.
+#[tactic(auto, using(crate::proofs::Ceiling::up_small))]
 fn of_term(t: Term, b: &[u8], n: usize) -> u64
     requires { Holds b.now n }
     ensures { result ≡ up_to (branches_with t (terms_in b.now n)) }
@@ -80,6 +82,7 @@ fn of_term(t: Term, b: &[u8], n: usize) -> u64
 }
 
 // The branches of all pairs of a term of a and a term of b.
+#[tactic(auto, using(crate::proofs::Ceiling::up_small))]
 fn of_all(a: &[u8], na: usize, b: &[u8], nb: usize) -> u64
     requires { Holds a.now na × Holds b.now nb }
     ensures { result ≡ up_to (branches_of_all (terms_in a.now na) (terms_in b.now nb)) }
@@ -93,6 +96,7 @@ fn of_all(a: &[u8], na: usize, b: &[u8], nb: usize) -> u64
 }
 
 // The branches of the product a b and of the product b a. Nothing is lent: the pairs of terms are only looked at.
+#[tactic(auto, using(crate::proofs::Ceiling::up_small))]
 pub fn branches(a: &[u8], b: &[u8]) -> BranchCounts
     ensures { result ≡ branches_told (read_as 1 a.now) (read_as 2 b.now) }
 {

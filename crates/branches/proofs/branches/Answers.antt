@@ -1,7 +1,6 @@
 -- `branches::branches` meets its contract: refused with the pair, too many, or the two counts.
 use mathlib.Core.Path.{◌∙◌}
-use native.Mathlib.Omega.{arith}
-use Rattle.branches.proofs.Telling.{pair_refused, first_there, second_there, sum_fits, too_many, told}
+use Rattle.branches.proofs.Telling.{pair_refused, first_there, second_there, too_many, told}
 use Rattle.branches.proofs.branches.Goals as goal
 
 pub returns-then-p-ne0 : goal.returns-then-p-ne0
@@ -17,17 +16,12 @@ of_all-backward-requires c =
     let opened = c.open_operands-p.ensures in
     (second_there _ _ _ opened c.if-p-ne0.false, first_there _ _ _ opened c.if-p-ne0.false)
 
-pub overflow_add-forward : goal.overflow_add-forward
-overflow_add-forward c =
-    let opened = c.open_operands-p.ensures in
-    let there = c.if-p-ne0.false in
-    record { fits = omega (arith, sum_fits _ _ _ opened there _ _ c.of_all-forward.ensures c.of_all-backward.ensures) }
-
 pub returns-then-forward-backward-gt-MOST : goal.returns-then-forward-backward-gt-MOST
 returns-then-forward-backward-gt-MOST c =
     let opened = c.open_operands-p.ensures in
     let there = c.if-p-ne0.false in
-    c.refused-then-forward-backward-gt-MOST.ensures ∙ too_many _ _ _ opened there _ _ c.of_all-forward.ensures c.of_all-backward.ensures c.if-forward-backward-gt-MOST.true
+    let over = c.if-forward-backward-gt-MOST.true in
+    c.refused-then-forward-backward-gt-MOST.ensures ∙ too_many _ _ _ opened there _ _ c.of_all-forward.ensures c.of_all-backward.ensures over
 
 pub returns : goal.returns
 returns c =

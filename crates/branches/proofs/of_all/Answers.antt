@@ -6,15 +6,8 @@ use Rattle.modes.proofs.Sums.{by_front, by_nothing}
 use Rattle.record.specs.Layout.{terms_in}
 use Rattle.record.proofs.Reading.{none_left}
 use Rattle.pairs.specs.Products.{branches_with}
-use Rattle.branches.proofs.Ceiling.{counts_start, counted, all_counted, up_small}
-use borrow.Author.Rules.{rules}
+use Rattle.branches.proofs.Ceiling.{counted, all_counted}
 use Rattle.branches.proofs.of_all.Goals as goal
-
-pub loop-i-init : goal.loop-i-init
-loop-i-init c = counts_start _
-
-pub more-so_far-requires : goal.more-so_far-requires
-more-so_far-requires c = (c.loop-i.invariant.small, rw c.of_term.ensures (up_small _))
 
 pub loop-i-preserved : goal.loop-i-preserved
 loop-i-preserved c =

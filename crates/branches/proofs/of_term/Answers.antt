@@ -4,15 +4,8 @@ use native.Mathlib.Omega.{arith}
 use Rattle.modes.proofs.Sums.{by_front, by_nothing}
 use Rattle.record.proofs.Reading.{none_left}
 use Rattle.pairs.specs.Products.{branches_of}
-use Rattle.branches.proofs.Ceiling.{counts_start, counted, all_counted, up_small}
-use borrow.Author.Rules.{rules}
+use Rattle.branches.proofs.Ceiling.{counted, all_counted}
 use Rattle.branches.proofs.of_term.Goals as goal
-
-pub loop-j-init : goal.loop-j-init
-loop-j-init c = counts_start _
-
-pub more-so_far-requires : goal.more-so_far-requires
-more-so_far-requires c = (c.loop-j.invariant.small, rw c.of_pair.ensures (up_small _))
 
 pub loop-j-preserved : goal.loop-j-preserved
 loop-j-preserved c =
