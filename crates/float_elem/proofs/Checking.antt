@@ -1,20 +1,17 @@
--- The checks before the sum, case by case: the lists, and a term.
+-- What the checks before the sum tell: the lengths of listed lists, and that a term refused by no number is refused by nothing.
 use mathlib.Core.Path.{◌≡◌, refl, sym, ap, ◌∙◌}
-use mathlib.Core.Bool.{Bool, true, false, and-true, and-false}
+use mathlib.Core.Bool.{Bool, true, false}
 use mathlib.Core.List.{List, [], ◌∷◌}
-use Prim.Native.Nat.{ℕ, ◌≤◌, ◌<◌}
+use Prim.Native.Nat.{ℕ}
 use native.Mathlib.Omega.{arith}
 use lib.Dec.{eqb, leb}
 use lib.ListN.{length}
 use lib.Ieee.{Float}
-use lib.Ieee.Scale.{finite}
-use borrow.Author.Tests.{eq-eqb, ne_eqb, le-leb, lt-leb, eqb-true}
+use borrow.Author.Tests.{eqb-true}
 use Rattle.modes.specs.Refusals.{or_else, need}
 use Rattle.modes.specs.Spaces.{space_of, is_made, inside}
 use Rattle.modes.specs.Answers.{refusal, none}
 use Rattle.modes.specs.declared.Refusal.{Refusal}
-use Rattle.modes.specs.declared.MadeSpace.{MadeSpace}
-use Rattle.modes.specs.declared.MadeSpace.TheVariants.{Refused}
 use Rattle.modes.proofs.Bools.{and_l, and_r}
 use Rattle.float_elem.specs.Elements.{all_finite, listed, float_term_refusal}
 use Rattle.float_elem.specs.Lengths.{OneLength}
@@ -22,27 +19,6 @@ use Rattle.float_elem.specs.Lengths.{OneLength}
 -- ---- the lists
 
 module _ (m : ℕ) (cre ann : List ℕ) (re im : List Float) where
-  pub no_space : space_of m ≡ Refused → false ≡ listed m cre ann (re ∷ im ∷ [])
-  unfolding listed
-  no_space e = rw e
-
-  pub too_many : 2048 < length cre → false ≡ listed m cre ann (re ∷ im ∷ [])
-  unfolding listed
-  too_many h = simp (lt-leb _ _ h, and-false)
-
-  pub other_ann : (length ann ≡ length cre → ⊥) → false ≡ listed m cre ann (re ∷ im ∷ [])
-  unfolding listed
-  other_ann h = simp (ne_eqb _ _ h, and-false)
-
-  pub other_re : (length re ≡ length cre → ⊥) → false ≡ listed m cre ann (re ∷ im ∷ [])
-  unfolding listed
-  other_re h = simp (ne_eqb _ _ h, and-false)
-
-  pub im_decides : (s : MadeSpace) → s ≡ space_of m → is_made s ≡ true → length cre ≤ 2048 → length ann ≡ length cre → length re ≡ length cre
-      → eqb (length im) (length cre) ≡ listed m cre ann (re ∷ im ∷ [])
-  unfolding listed
-  im_decides s e y few a r = rw (← e, y, le-leb _ _ few, eq-eqb _ _ a, eq-eqb _ _ r, and-true)
-
   pub lengths : (b : Bool) → b ≡ listed m cre ann (re ∷ im ∷ []) → b ≡ true → OneLength (length cre) ann re im
   unfolding listed
   lengths b e t =
@@ -58,27 +34,7 @@ module _ (m : ℕ) (cre ann : List ℕ) (re im : List Float) where
 
 -- ---- a term
 
--- a number that isn't finite, and numbers that are
-pub first_out : (x y : Float) → finite x ≡ false → false ≡ all_finite (x ∷ y ∷ [])
-first_out x y e = rw e
-
-pub second_decides : (x y : Float) → finite x ≡ true → finite y ≡ all_finite (x ∷ y ∷ [])
-second_decides x y e = rw (e, and-true)
-
 module _ (m i cre ann : ℕ) (c : List Float) where
-  pub outside : inside m cre ann ≡ false → refusal 2 1 i ≡ float_term_refusal m i cre ann c
-  unfolding float_term_refusal or_else
-  outside e = rw e
-
-  module _ (e : inside m cre ann ≡ true) where
-    pub not_finite : all_finite c ≡ false → refusal 13 1 i ≡ float_term_refusal m i cre ann c
-    unfolding float_term_refusal or_else
-    not_finite f = rw (e, f)
-
-    pub right_term : all_finite c ≡ true → none ≡ float_term_refusal m i cre ann c
-    unfolding float_term_refusal or_else
-    right_term f = rw (e, f)
-
   -- a refusal without a number is none
   pub no_number : (r : Refusal) → r ≡ float_term_refusal m i cre ann c → r.number ≡ 0 → float_term_refusal m i cre ann c ≡ none
   unfolding float_term_refusal or_else

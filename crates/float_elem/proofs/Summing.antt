@@ -1,4 +1,4 @@
--- The running sum, term by term: what a term adds to a part, and what the sums of all parts so far show.
+-- The running sum, term by term: what the sums of all parts so far show.
 use mathlib.Core.Path.{◌≡◌, refl, sym, ap, ◌∙◌}
 use mathlib.Core.Bool.{Bool, true, false}
 use mathlib.Core.List.{List, [], ◌∷◌}
@@ -7,58 +7,22 @@ use native.Mathlib.Numerals.{add-one}
 use native.Mathlib.Omega.{arith}
 use lib.Bits.{bit_xor}
 use lib.ListN.{length, get_or}
-use lib.Ieee.{Float, nan, add, binary64}
-use borrow.Author.Tests.{eq-eqb, ne_eqb}
+use lib.Ieee.{Float, nan}
+use borrow.Author.Tests.{ne_eqb}
 use Rattle.modes.specs.Answers.{refusal, none}
-use Rattle.modes.specs.declared.Sign.{Sign}
-use Rattle.products.specs.PhaseRule.{went}
-use Rattle.products.specs.Apply.{applied}
-use Rattle.products.specs.declared.Blocked.{Blocked}
-use Rattle.products.specs.declared.ApplyResult.TheVariants.{Applied, Zero}
-use Rattle.products.proofs.Outcomes.{went_where_applied, gone_where_zero}
 use Rattle.products.proofs.Changes.{elsewhere}
 use Rattle.modes.specs.Refusals.{first_refusal, need, unless}
 use Rattle.modes.proofs.FirstRefusals.{first_starts, first_goes, first_stays}
-use Rattle.float_elem.specs.declared.Complex64.{Complex64}
-use Rattle.float_elem.specs.Sums.{plus_zero, signed_float, added_float, joined, sum_to}
+use Rattle.float_elem.specs.Sums.{plus_zero, added_float, joined, sum_to}
 use Rattle.float_elem.specs.Answers.{valued, no_values}
 use Rattle.float_elem.specs.Elements.{all_finite, sum_at, sum_refusal, summed}
 
--- ---- one term and one part
+-- ---- a term that changes other modes than those in which bra and ket differ
 
-module _ (bra ket cre ann : ℕ) where
-  module _ (c x : Float) where
-    zero : {b : Blocked} → Zero b ≡ applied cre ann ket → x ≡ joined bra ket cre ann c x
-    zero e = sym (ap (added_float bra c x) (gone_where_zero cre ann ket (sym e)))
-
-    -- a term that changes other modes than those in which bra and ket differ
-    pub joined_elsewhere : cre < 2 ^ 64 → ann < 2 ^ 64 → (bit_xor cre ann ≡ bit_xor bra ket → ⊥) → x ≡ joined bra ket cre ann c x
-    joined_elsewhere hc ha n = sym (elsewhere cre ann ket hc ha bra n (added_float bra c x) x refl (λ word sign o. rw (ne_eqb word bra o)))
-
-    there : (word : ℕ) (sign : Sign) → Applied word sign ≡ applied cre ann ket → joined bra ket cre ann c x ≡ added_float bra c x (went word sign.0)
-    there word sign e = ap (added_float bra c x) (went_where_applied cre ann ket word sign (sym e))
-
-    other : (word : ℕ) (sign : Sign) → Applied word sign ≡ applied cre ann ket → (word ≡ bra → ⊥) → x ≡ joined bra ket cre ann c x
-    other word sign e n = sym (there word sign e ∙ rw (ne_eqb word bra n))
-
-    here : (word : ℕ) (sign : Sign) → Applied word sign ≡ applied cre ann ket → word ≡ bra → (s : Bool) → sign.0 ≡ s
-        → add binary64 x (signed_float s c) ≡ joined bra ket cre ann c x
-    here word sign e h s es = sym (there word sign e ∙ rw (eq-eqb word bra h, es))
-
-  -- both parts
-  module _ (c x : Complex64) where
-    abbrev Both : Float → Float → Type 0
-    Both y z = (y ≡ joined bra ket cre ann c.re x.re) × (z ≡ joined bra ket cre ann c.im x.im)
-
-    pub joined_zero : {b : Blocked} → Zero b ≡ applied cre ann ket → Both x.re x.im
-    joined_zero e = (zero c.re x.re e, zero c.im x.im e)
-
-    module _ (word : ℕ) (sign : Sign) (e : Applied word sign ≡ applied cre ann ket) where
-      pub joined_other : (word ≡ bra → ⊥) → Both x.re x.im
-      joined_other n = (other c.re x.re word sign e n, other c.im x.im word sign e n)
-
-      pub joined_here : word ≡ bra → (s : Bool) → sign.0 ≡ s → Both (add binary64 x.re (signed_float s c.re)) (add binary64 x.im (signed_float s c.im))
-      joined_here h s es = (here c.re x.re word sign e h s es, here c.im x.im word sign e h s es)
+joined_elsewhere : (bra ket cre ann : ℕ) (c x : Float) → cre < 2 ^ 64 → ann < 2 ^ 64 → (bit_xor cre ann ≡ bit_xor bra ket → ⊥)
+    → x ≡ joined bra ket cre ann c x
+joined_elsewhere bra ket cre ann c x hc ha n =
+    sym (elsewhere cre ann ket hc ha bra n (added_float bra c x) x refl (λ word sign o. rw (ne_eqb word bra o)))
 
 -- ---- the running sums
 

@@ -39,6 +39,7 @@ fn are_finite(z: Complex64) -> bool
 }
 
 // Number 1: the mode count and the lengths of the lists.
+#[tactic(auto, unfolding(crate::specs::Elements::listed))]
 fn is_listed(m: u64, cre: &[u64], ann: &[u64], re: &[f64], im: &[f64]) -> bool
     ensures { result ≡ listed m cre.now ann.now (re.now ∷ im.now ∷ []) }
 {
@@ -58,6 +59,7 @@ fn is_listed(m: u64, cre: &[u64], ann: &[u64], re: &[f64], im: &[f64]) -> bool
 }
 
 // Numbers 2 and 13 of the term at `place`.
+#[tactic(auto, unfolding(crate::specs::Elements::float_term_refusal, modes::specs::Refusals::or_else))]
 fn term_refusal(space: ModeSpace, place: u64, cre: u64, ann: u64, c: Complex64) -> Refusal
     ensures { result ≡ float_term_refusal space.count place cre ann (c.re ∷ c.im ∷ []) }
 {

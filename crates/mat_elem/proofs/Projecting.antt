@@ -1,44 +1,27 @@
 -- The ways in which `mat_ortho_projected` answers: refused with the record or with the basis, or filled.
-use mathlib.Core.Path.{◌≡◌, refl, sym, ap, ◌∙◌}
+use mathlib.Core.Path.{◌≡◌, sym, ap, ◌∙◌}
 use mathlib.Core.List.{List}
-use Prim.Native.Nat.{ℕ, ◌≤◌, ◌<◌}
+use Prim.Native.Nat.{ℕ, ◌≤◌}
 use native.Mathlib.Omega.{arith}
 use lib.Dec.{leb}
 use lib.ListN.{length}
-use borrow.Author.Tests.{le-leb, lt-leb, leb-true}
+use borrow.Author.Tests.{leb-true}
 use Rattle.record.specs.Operands.{read_as}
 use Rattle.modes.specs.Answers.{refusal, none}
 use Rattle.modes.specs.declared.Refusal.{Refusal}
 use Rattle.modes.specs.declared.Term.{Term}
 use Rattle.record.specs.Layout.{terms_in, terms_of, modes_of}
-use Rattle.modes.specs.Refusals.{or_else, first_refusal}
 use Rattle.record.specs.Refusals.{refusal_of, checked_of}
 use Rattle.record.specs.declared.Checked.{Checked}
-use Rattle.modes.proofs.Refusals.{or_first, or_second, neither, second_refuses, neither_refuses, first_refuses, needed}
+use Rattle.modes.proofs.Refusals.{neither, second_refuses, neither_refuses, first_refuses, needed}
 use Rattle.record.proofs.Accepted.{Accepted, accepted, refused, refusal_told}
 use Rattle.record.specs.Reading.{Sound}
-use Rattle.mat_elem.specs.Matrix.{outside_at, repeat_at, basis_refusal, matrix_of, refused_matrix, projected_of}
+use Rattle.mat_elem.specs.Matrix.{basis_refusal, matrix_of, refused_matrix, projected_of}
 use Rattle.mat_elem.specs.declared.Projected.{Projected}
 
 -- ---- the basis
 
 module _ (m : ℕ) (basis : List ℕ) where
-  pub basis_long : 8 < length basis → refusal 14 3 0 ≡ basis_refusal m basis
-  unfolding basis_refusal
-  basis_long h = sym (rw (lt-leb _ _ h) (or_first (refusal 14 3 0) _ (λ q. omega arith)))
-
-  module _ (h : length basis ≤ 8) where
-    after_length : basis_refusal m basis ≡ or_else (first_refusal (outside_at m basis) (length basis)) (first_refusal (repeat_at basis) (length basis))
-    unfolding basis_refusal
-    after_length = rw (le-leb _ _ h) (or_second none _ refl)
-
-    pub basis_outside : (r : Refusal) → r ≡ first_refusal (outside_at m basis) (length basis) → (r.number ≡ 0 → ⊥) → r ≡ basis_refusal m basis
-    basis_outside r e n = sym (after_length ∙ rw (← e) (or_first r _ n))
-
-    pub basis_repeats : (r q : Refusal) → r ≡ first_refusal (outside_at m basis) (length basis) → r.number ≡ 0 → q ≡ first_refusal (repeat_at basis) (length basis)
-        → q ≡ basis_refusal m basis
-    basis_repeats r q e z f = sym (after_length ∙ rw (← e, ← f) (or_second r q z))
-
   -- a basis that is not refused is short
   pub basis_short : (basis_refusal m basis).number ≡ 0 → length basis ≤ 8
   unfolding basis_refusal

@@ -10,13 +10,7 @@ use lib.ListN.{drop}
 use borrow.Author.Tests.{eq-eqb, ne_eqb}
 use Rattle.modes.specs.Sums.{sum_of}
 use Rattle.modes.specs.declared.Term.{Term}
-use Rattle.modes.specs.declared.Sign.{Sign}
-use Rattle.products.specs.PhaseRule.{went}
-use Rattle.products.specs.Operators.{signed, adds, part, element}
-use Rattle.products.specs.Apply.{applied}
-use Rattle.products.specs.declared.Blocked.{Blocked}
-use Rattle.products.specs.declared.ApplyResult.TheVariants.{Applied, Zero}
-use Rattle.products.proofs.Outcomes.{went_where_applied, gone_where_zero}
+use Rattle.products.specs.Operators.{adds, part, element}
 use Rattle.products.proofs.Changes.{elsewhere}
 use Rattle.record.specs.Terms.{weight}
 use Rattle.record.specs.Reading.{At}
@@ -25,23 +19,10 @@ use Rattle.mat_elem.specs.Passing.{passed}
 
 -- ---- one term
 
-module _ (bra ket : ℕ) (t : Term) where
-  pub part_zero : {b : Blocked} → Zero b ≡ applied t.cre t.ann ket → pos 0 ≡ part bra ket t
-  part_zero e = sym (ap (adds bra t.coeff) (gone_where_zero t.cre t.ann ket (sym e)))
-
-  -- it changes other modes than those in which bra and ket differ
-  pub part_elsewhere : t.cre < 2 ^ 64 → t.ann < 2 ^ 64 → (bit_xor t.cre t.ann ≡ bit_xor bra ket → ⊥) → part bra ket t ≡ pos 0
-  part_elsewhere hc ha n = elsewhere t.cre t.ann ket hc ha bra n (adds bra t.coeff) (pos 0) refl (λ word sign o. rw (ne_eqb word bra o))
-
-  module _ (word : ℕ) (sign : Sign) (e : Applied word sign ≡ applied t.cre t.ann ket) where
-    there : part bra ket t ≡ adds bra t.coeff (went word sign.0)
-    there = ap (adds bra t.coeff) (went_where_applied t.cre t.ann ket word sign (sym e))
-
-    pub part_other : (word ≡ bra → ⊥) → pos 0 ≡ part bra ket t
-    part_other n = sym (there ∙ rw (ne_eqb word bra n))
-
-    pub part_here : word ≡ bra → signed sign.0 t.coeff ≡ part bra ket t
-    part_here h = sym (there ∙ rw (eq-eqb word bra h))
+-- it changes other modes than those in which bra and ket differ
+part_elsewhere : (bra ket : ℕ) (t : Term) → t.cre < 2 ^ 64 → t.ann < 2 ^ 64 → (bit_xor t.cre t.ann ≡ bit_xor bra ket → ⊥) → part bra ket t ≡ pos 0
+part_elsewhere bra ket t hc ha n =
+    elsewhere t.cre t.ann ket hc ha bra n (adds bra t.coeff) (pos 0) refl (λ word sign o. rw (ne_eqb word bra o))
 
 -- ---- the sum
 
@@ -75,9 +56,6 @@ module _ (bra ket : ℕ) (ts : List Term) where
   pub record Passing (first i : ℕ) : Type 0 where
     pub steps : i + passed bra ket (drop i ts) ≡ first + passed bra ket (drop first ts)
     pub same : element bra ket (drop i ts) ≡ element bra ket (drop first ts)
-
-  pub passing_starts : (i : ℕ) → Passing i i
-  passing_starts i = record { steps = refl; same = refl }
 
   module _ (first i : ℕ) (g : Passing first i) where
     pub passing_goes : (t : Term) → At ts i t → t.cre < 2 ^ 64 → t.ann < 2 ^ 64 → (bit_xor t.cre t.ann ≡ bit_xor bra ket → ⊥) → Passing first (i + 1)

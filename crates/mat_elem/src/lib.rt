@@ -60,6 +60,7 @@ fn next_between(s: &[u8], n: usize, from: usize, bra: u64, ket: u64) -> usize
 }
 
 // What n terms add. The sum stays within their weight, so that it never wraps.
+// A `while`, since it jumps to the next term that can add: asking every term at the head of `part_of` was measured slower.
 fn sum_parts(s: &[u8], n: usize, bra: u64, ket: u64) -> i64
     requires { Sound s.now n }
     ensures { result ≡ element bra ket (terms_in s.now n) }
@@ -159,6 +160,7 @@ fn repeat_refusal(basis: &[u64]) -> Refusal
 }
 
 // The length of a basis, then its words, then repeats.
+#[tactic(auto, unfolding(crate::specs::Matrix::basis_refusal, modes::specs::Refusals::or_else))]
 fn basis_refusal(space: ModeSpace, basis: &[u64]) -> Refusal
     ensures { result ≡ basis_refusal space.count basis.now }
 {

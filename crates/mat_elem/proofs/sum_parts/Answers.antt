@@ -6,14 +6,10 @@ use lib.IntN.{ℤ, ◌+ℤ◌}
 use mir.Facts.{to_z-of_z}
 use mir.Syntax.{w64}
 use mir.Val.{SFits, to_z, of_z}
-use borrow.Author.Rules.{rules}
 use Rattle.record.specs.Layout.{terms_in}
 use Rattle.record.proofs.Reading.{none_left}
 use Rattle.mat_elem.proofs.Summing.{sum_starts, sum_passes, sum_goes, sum_fits, term_light, sum_ends}
 use Rattle.mat_elem.proofs.sum_parts.Goals as goal
-
-pub next_between-i-requires : goal.next_between-i-requires
-next_between-i-requires c = (c.requires.size, zero-le)
 
 pub loop-i-init : goal.loop-i-init
 loop-i-init c =
@@ -21,9 +17,6 @@ loop-i-init c =
     let next = c.next_between-i in
     let none_yet = sum_starts c.args.bra c.args.ket terms c.requires.light in
     (next.ensures.1, sum_passes c.args.bra c.args.ket terms _ 0 next.result zero-le next.ensures.2 none_yet)
-
-pub read_term-t-requires : goal.read_term-t-requires
-read_term-t-requires c = (c.requires.size, c.loop-i-test.true)
 
 pub part_of-requires : goal.part_of-requires
 part_of-requires c =
@@ -36,9 +29,6 @@ sum-sum-requires c =
     let p : SFits w64 c.part_of.result = record { sfits = c.part_of.type_inv } in
     rw (to_z-of_z p) (sum_fits c.args.bra c.args.ket (terms_in c.args.s.now c.args.n) (to_z w64 l.sum-bits) c.part_of.result l.i
     c.read_term-t.result c.read_term-t.ensures l.invariant.1 c.part_of.ensures.1)
-
-pub next_between-i-requires-in-loop-i : goal.next_between-i-requires-in-loop-i
-next_between-i-requires-in-loop-i c = (c.requires.size, search rules)
 
 pub loop-i-preserved : goal.loop-i-preserved
 loop-i-preserved c =
