@@ -4,7 +4,6 @@
 
 ghost use Rattle.std.specs.Prelude.{◌<◌};
 
-use modes::Sign;
 use products::{ApplyResult, Blocked};
 use readers::read_full;
 use std::io;
@@ -14,38 +13,25 @@ use std::io;
 struct Tally {
     compared: u64,
     differ: u64,
-    first: u64,
-}
-
-fn more(n: u64) -> u64 {
-    if n == u64::MAX { n } else { n + 1 }
+    first: Option<u64>,
 }
 
 impl Tally {
     const NONE: Tally = Tally {
         compared: 0,
         differ: 0,
-        first: 0,
+        first: None,
     };
 
     fn with(self, agrees: bool) -> Tally {
-        let compared = more(self.compared);
+        let compared = self.compared.saturating_add(1);
         if agrees {
-            return Tally {
-                compared,
-                differ: self.differ,
-                first: self.first,
-            };
+            return Tally { compared, ..self };
         }
-        let first = if self.differ == 0 {
-            compared
-        } else {
-            self.first
-        };
         Tally {
             compared,
-            differ: more(self.differ),
-            first,
+            differ: self.differ.saturating_add(1),
+            first: self.first.or(Some(compared)),
         }
     }
 }
@@ -55,63 +41,44 @@ fn print_tally(rt: &impl Print, title: &str, t: Tally) -> io::Result<()> {
     let compared = t.compared;
     let differ = t.differ;
     print!(rt; "{title}{compared} compared, {differ} differ")?;
-    if t.differ != 0 {
-        let first = t.first;
+    if let Some(first) = t.first {
         print!(rt; ", the first is number {first}")?;
     }
     println!(rt; "")
 }
 
-// The number that a hexadecimal digit stands for.
-fn digit(b: u8) -> u64 {
-    if b'a' <= b {
-        return ((b - b'a') as u64 + 10) % 16;
-    }
-    (b % 16) as u64
-}
-
 // Field k of a line: 16 hexadecimal digits, after the letter of the line's kind and a space before each field.
-fn field(line: &[u8; 104], k: usize) -> u64
+fn field(line: &[u8; 104], k: usize) -> Option<u64>
     requires { k < 6 }
 {
-    let mut x: u64 = 0;
-    for i in 0..16 {
-        x = x % 0x1000_0000_0000_0000 * 16 + digit(line[2 + 17 * k + i]) % 16;
-    }
-    x
-}
-
-fn is(sign: Sign, minus: u64) -> bool {
-    if sign.0 { minus == 1 } else { minus == 0 }
+    let start = 2 + 17 * k;
+    let digits = str::from_utf8(&line[start..start + 16]).ok()?;
+    u64::from_str_radix(digits, 16).ok()
 }
 
 // Does {cre|ann} on ket give the word and the sign (outcome 1), or Zero (outcome 0)?
 fn applies(cre: u64, ann: u64, ket: u64, outcome: u64, word: u64, minus: u64) -> bool {
     match products::apply_op_ket_u64(cre, ann, ket) {
-        ApplyResult::Applied(w, s) => outcome == 1 && w == word && is(s, minus),
+        ApplyResult::Applied(w, s) => outcome == 1 && w == word && minus == u64::from(s.0),
         ApplyResult::Zero(_) => outcome == 0,
     }
 }
 
-// Is {cre|ann} on ket blocked by this mode, which is missing (reason 1) or still occupied (reason 2)?
-fn is_blocked(cre: u64, ann: u64, ket: u64, reason: u64, mode: u64) -> bool {
-    match products::apply_op_ket_u64(cre, ann, ket) {
-        ApplyResult::Applied(_, _) => false,
-        ApplyResult::Zero(blocked) => match blocked {
-            Blocked::Missing(p) => reason == 1 && p == mode,
-            Blocked::Occupied(p) => reason == 2 && p == mode,
-        },
-    }
+// Is {cre|ann} on ket blocked by this mode, which is missing?
+fn is_missing(cre: u64, ann: u64, ket: u64, mode: u64) -> bool {
+    let answer = products::apply_op_ket_u64(cre, ann, ket);
+    matches!(answer, ApplyResult::Zero(Blocked::Missing(p)) if p == mode)
+}
+
+// Is {cre|ann} on ket blocked by this mode, which is still occupied?
+fn is_occupied(cre: u64, ann: u64, ket: u64, mode: u64) -> bool {
+    let answer = products::apply_op_ket_u64(cre, ann, ket);
+    matches!(answer, ApplyResult::Zero(Blocked::Occupied(p)) if p == mode)
 }
 
 // Are these the words of the output: the annihilation word, the creation word and the coefficient, 1 or -1 as its bits, of each row, and zeros past them?
 fn holds(out: &[u8; 96], words: &[u64; 12]) -> bool {
-    for i in 0..12 {
-        if lent::word(out, 8 * i) != words[i] {
-            return false;
-        }
-    }
-    true
+    (0..12).all(|i| lent::word(out, 8 * i) == words[i])
 }
 
 // Is {l_cre|l_ann} {r_cre|r_ann} not refused, with n rows, and these?
@@ -163,8 +130,8 @@ fn numbered_words() -> Tally {
         .with(applies(0, 0, u64::MAX, 1, u64::MAX, 0));
     let ten = nine.with(applies(4, 1, 3, 1, 6, 1));
     let eleven = ten
-        .with(is_blocked(0, 4, 3, 1, 2))
-        .with(is_blocked(1, 0, 1, 2, 0))
+        .with(is_missing(0, 4, 3, 2))
+        .with(is_occupied(1, 0, 1, 0))
         .with(applies(1, 1, 1, 1, 1, 0));
     let top: u64 = 0x8000_0000_0000_0000;
     let twelve = eleven.with(applies(top, 0, top - 1, 1, u64::MAX, 1));
@@ -173,20 +140,21 @@ fn numbered_words() -> Tally {
         .with(applies(3, 0, 0, 1, 3, 0))
 }
 
-fn stored_apply(line: &[u8; 104]) -> bool {
-    applies(
-        field(line, 0),
-        field(line, 1),
-        field(line, 2),
-        field(line, 3),
-        field(line, 4),
-        field(line, 5),
-    )
+// Does the code agree with a stored line? None where the line's fields are no numbers.
+fn stored_apply(line: &[u8; 104]) -> Option<bool> {
+    Some(applies(
+        field(line, 0)?,
+        field(line, 1)?,
+        field(line, 2)?,
+        field(line, 3)?,
+        field(line, 4)?,
+        field(line, 5)?,
+    ))
 }
 
-fn stored_count(line: &[u8; 104]) -> bool {
-    let count = products::count_before_each_set_bit(field(line, 0), field(line, 1));
-    count as u64 == field(line, 2)
+fn stored_count(line: &[u8; 104]) -> Option<bool> {
+    let count = products::count_before_each_set_bit(field(line, 0)?, field(line, 1)?);
+    Some(u64::from(count) == field(line, 2)?)
 }
 
 // Reads the stored answers, at most 100,000 lines, and prints how those of each kind came out, and the lines of none.
@@ -201,13 +169,10 @@ fn print_stored(rt: &(impl Input + Print)) -> io::Result<()> {
         if read == 0 {
             break;
         }
-        let kind = if read == 104 { line[0] } else { 0 };
-        if kind == b'a' {
-            applied = applied.with(stored_apply(&line));
-        } else if kind == b'c' {
-            counted = counted.with(stored_count(&line));
-        } else {
-            unknown = unknown.with(false);
+        match line[0] {
+            b'a' if read == 104 => applied = applied.with(stored_apply(&line) == Some(true)),
+            b'c' if read == 104 => counted = counted.with(stored_count(&line) == Some(true)),
+            _ => unknown = unknown.with(false),
         }
     }
     print_tally(rt, "apply_op_ket_u64: ", applied)?;

@@ -17,6 +17,7 @@ pub fn read_full<R: Read>(reader: &mut R, buf: &mut [u8]) -> io::Result<usize>
     ensures err { OnErr result ((n : ℕ) × (n ≤ length buf.new) × Consumes (R.remaining reader.old) (R.remaining reader.new) (take n buf.new)) }
 {
     let mut done = 0;
+    // A `while`, since each turn goes on after as many bytes as its read gave.
     while done < buf.len() {
         let n = reader.read(&mut buf[done..])?;
         if n == 0 {
