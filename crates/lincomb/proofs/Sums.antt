@@ -48,11 +48,8 @@ module _ (minus : Bool) (a b out : List ℕ) (p : Opened) (ep : p ≡ opened_of 
     ready : Opens a b p
     ready = opens a b p ep z
 
-    pub sound_left : Sound a p.left
-    sound_left = sound 1 a p.left ready.one ready.left
-
-    pub sound_right : Sound b p.right
-    sound_right = sound 2 b p.right ready.two ready.right
+    pub both_sound : Sound a p.left × Sound b p.right
+    both_sound = (sound 1 a p.left ready.one ready.left, sound 2 b p.right ready.two ready.right)
 
     -- the terms that the code goes through
     abbrev pub terms : List Term

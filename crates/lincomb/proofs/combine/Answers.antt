@@ -1,6 +1,6 @@
 -- `lincomb::combine` meets its contract: each way out gives what the definition says.
 use Rattle.record.proofs.Outputs.{gives_as}
-use Rattle.lincomb.proofs.Sums.{pair_refused, sound_left, sound_right, result_refused, room_enough, result_delivered}
+use Rattle.lincomb.proofs.Sums.{pair_refused, both_sound, result_refused, room_enough, result_delivered}
 use Rattle.lincomb.proofs.combine.Goals as goal
 
 pub returns-then-p-ne0 : goal.returns-then-p-ne0
@@ -9,10 +9,7 @@ returns-then-p-ne0 c =
     gives_as (pair_refused s.sign.0 _ _ s.out.now _ c.open_operands-p.ensures c.if-p-ne0.true) c.refuse.ensures
 
 pub count_terms-t-requires : goal.count_terms-t-requires
-count_terms-t-requires c =
-    let s = c.args in
-    let p = c.open_operands-p.ensures in
-    (sound_left s.sign.0 _ _ s.out.now _ p c.if-p-ne0.false, sound_right s.sign.0 _ _ s.out.now _ p c.if-p-ne0.false)
+count_terms-t-requires c = both_sound c.args.sign.0 _ _ c.args.out.now _ c.open_operands-p.ensures c.if-p-ne0.false
 
 pub returns-then-late-ne0 : goal.returns-then-late-ne0
 returns-then-late-ne0 c =
@@ -27,10 +24,7 @@ write_sum-requires c =
     room_enough s.sign.0 _ _ s.out.now _ c.open_operands-p.ensures c.if-p-ne0.false _ c.count_terms-t.ensures _
     c.verdict-late.ensures c.if-late-ne0.false in
     record {
-      sound = (
-        sound_left s.sign.0 _ _ s.out.now _ c.open_operands-p.ensures c.if-p-ne0.false,
-        sound_right s.sign.0 _ _ s.out.now _ c.open_operands-p.ensures c.if-p-ne0.false,
-      );
+      sound = both_sound s.sign.0 _ _ s.out.now _ c.open_operands-p.ensures c.if-p-ne0.false;
       fits = (c.count_terms-t.ensures.terms, f.long, f.few);
     }
 
