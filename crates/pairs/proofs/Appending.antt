@@ -20,7 +20,7 @@ use Rattle.modes.specs.Every.{Every}
 use Rattle.lent.specs.Rows.{rows_bytes, rows_at, Fit}
 use Rattle.lent.proofs.RowLaws.{rows_put_all}
 use Rattle.products.specs.Product.{not_empty, branching, rows_times}
-use Rattle.products.specs.Fitting.{Fitting, rows_of}
+use Rattle.products.specs.Fitting.{rows_of}
 use Rattle.products.specs.declared.ProductHelper.{ProductHelper}
 use Rattle.products.proofs.Multiplied.{bifurcation_number, rows_none, rows_number}
 use Rattle.pairs.specs.Filling.{Room, Appended, fits, over}
@@ -56,9 +56,6 @@ module _ (h : ProductHelper) (z : ℤ) (l : List ℕ) (s : Fill) (r : Room l s) 
     module _ (e : leb (24 * 2 ^ ones w) (length l - s.held) ≡ true) where
       enough : 24 * 2 ^ ones w ≤ length l - s.held
       enough = leb-true (24 * 2 ^ ones w) (length l - s.held) e
-
-      pub fitting : Fitting h w (length l - s.used)
-      fitting = record { full = full; modes = is; fit = omega (arith, enough, r.few) }
 
       grown : s.held + 24 * length (rows_of h z) ≤ length l
       grown = omega (arith, number, enough, r.fits)
