@@ -1,4 +1,5 @@
--- What the comparison says of two records that it accepts: equal exactly if all elements agree, and then the bytes do; otherwise the elements at the pair named differ.
+-- What the comparison says of two records that it accepts: equal exactly if all elements agree, and then the bytes do;
+-- otherwise the elements at the pair named differ.
 use mathlib.Core.Path.{◌≡◌, refl, sym, ap, ◌∙◌, subst}
 use mathlib.Core.Bool.{Bool, true, false}
 use mathlib.Core.List.{List, [], ◌∷◌}
@@ -52,7 +53,9 @@ record Answers (a b : List ℕ) (r : Compared) : Type 0 where
 
 answers : (a b : List ℕ) (r : Compared) → r ≡ compared_of (read_as 1 a) (read_as 2 b) → r.refusal.number ≡ 0 → Answers a b r
 answers a b r e ok =
-    let found = answered (operands_refusal (read_as 1 a) (read_as 2 b)) refused_comparison (named (differing (terms_of a) (terms_of b))) (λ c. c.refusal) refl r e ok in
+    let found =
+    answered (operands_refusal (read_as 1 a) (read_as 2 b)) refused_comparison (named (differing (terms_of a) (terms_of b))) (λ c. c.refusal)
+    refl r e ok in
     record { fine = found.0; is = found.1 }
 
 module _ (a b : List ℕ) (r : Compared) (e : r ≡ compared_of (read_as 1 a) (read_as 2 b)) (ok : r.refusal.number ≡ 0) where
@@ -115,7 +118,8 @@ module _ (a b : List ℕ) (r : Compared) (e : r ≡ compared_of (read_as 1 a) (r
         less : count 64 (bit k) < count 64 (bit (named (differing (terms_of a) (terms_of b))).ket)
         less = rw answer.is at l
 
-        go : (coeff_of c k (terms_of a) ≡ coeff_of c k (terms_of b)) ⊎ Differ (terms_of a) (terms_of b) c k → coeff_of c k (terms_of a) ≡ coeff_of c k (terms_of b)
+        go : (coeff_of c k (terms_of a) ≡ coeff_of c k (terms_of b)) ⊎ Differ (terms_of a) (terms_of b) c k
+            → coeff_of c k (terms_of a) ≡ coeff_of c k (terms_of b)
         go (inl q) = q
         go (inr d) = absurd (none_fewer (Differ (terms_of a) (terms_of b)) _ listed (flag false h) c k less d)
 
@@ -128,7 +132,8 @@ module _ (a b : List ℕ) (r : Compared) (e : r ≡ compared_of (read_as 1 a) (r
         differ (same_coefficient (modes_of a) (terms_of a) (terms_of b) one two r.bra r.ket named_inside.1 (λ c k hc hk l. agree c k l) q)
 
   -- elements that agree at all words on the records' modes: equal
-  pub elements_equal : ((bra ket : ℕ) → bra < 2 ^ modes_of a → ket < 2 ^ modes_of a → element bra ket (terms_of a) ≡ element bra ket (terms_of b)) → r.equal ≡ true
+  pub elements_equal : ((bra ket : ℕ) → bra < 2 ^ modes_of a → ket < 2 ^ modes_of a → element bra ket (terms_of a) ≡ element bra ket (terms_of b))
+      → r.equal ≡ true
   elements_equal h = go r.equal refl
     where
       go : (s : Bool) → r.equal ≡ s → s ≡ true
