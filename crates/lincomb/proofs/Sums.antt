@@ -68,7 +68,8 @@ module _ (minus : Bool) (a b out : List ℕ) (p : Opened) (ep : p ≡ opened_of 
 
       pub result_refused : (late.number ≡ 0 → ⊥) → refused_output (length out) late ≡ combined minus (length out) (read_as 1 a) (read_as 2 b)
       result_refused h =
-          refused_late (length out) 0 (operands_refusal (read_as 1 a) (read_as 2 b)) _ (modes_of a) (sum_terms minus (read_as 1 a) (read_as 2 b)) ready.pair late judged h
+          refused_late (length out) 0 (operands_refusal (read_as 1 a) (read_as 2 b)) _ (modes_of a) (sum_terms minus (read_as 1 a) (read_as 2 b))
+          ready.pair late judged h
 
       module _ (fine : late.number ≡ 0) where
         pub room_enough : Deliverable (length out) t.terms t.weight
@@ -78,7 +79,8 @@ module _ (minus : Bool) (a b out : List ℕ) (p : Opened) (ep : p ≡ opened_of 
         pub result_delivered : filled_output (length out) 0 (encode p.modes terms) ≡ combined minus (length out) (read_as 1 a) (read_as 2 b)
         result_delivered =
             ap₂ (λ (m : ℕ) (ts : List Term). filled_output (length out) 0 (encode m ts)) ready.modes terms_are
-            ∙ delivers (length out) 0 (operands_refusal (read_as 1 a) (read_as 2 b)) _ (modes_of a) (sum_terms minus (read_as 1 a) (read_as 2 b)) ready.pair late judged fine
+            ∙ delivers (length out) 0 (operands_refusal (read_as 1 a) (read_as 2 b)) _ (modes_of a) (sum_terms minus (read_as 1 a) (read_as 2 b))
+            ready.pair late judged fine
 
 -- ---- the theorems, of the bytes that a call leaves where it is not refused
 
@@ -99,23 +101,27 @@ module _ (minus : Bool) (room : ℕ) (a b : List ℕ) (r : Written) (after : Lis
       let left = accepted_canonical 1 a (first_fine a b fine.0) in
       let right : Every (Inside (modes_of a)) (terms_of b) = rw (same_modes a b fine.0) (accepted_canonical 2 b (second_fine a b fine.0)).inside in
       result_canonical (modes_of a) both left.some left.most
-      (every_append (terms_of a) (map (turn minus) (terms_of b)) left.inside (every_map (turn minus) (terms_of b) (inside_turn (modes_of a) minus) right)) room fine.1
+      (every_append (terms_of a) (map (turn minus) (terms_of b)) left.inside
+      (every_map (turn minus) (terms_of b) (inside_turn (modes_of a) minus) right)) room fine.1
 
   -- the output's record is accepted
   pub sum_accepted : (o : ℕ) → refusal_of o (take r.len after) ≡ none
-  sum_accepted = output_accepted room 0 (operands_refusal (read_as 1 a) (read_as 2 b)) _ (modes_of a) (sum_terms minus (read_as 1 a) (read_as 2 b)) r after g z form
+  sum_accepted =
+      output_accepted room 0 (operands_refusal (read_as 1 a) (read_as 2 b)) _ (modes_of a) (sum_terms minus (read_as 1 a) (read_as 2 b)) r after g z form
 
   pub sum_modes : modes_of (take r.len after) ≡ modes_of a
   sum_modes = output_modes room 0 (operands_refusal (read_as 1 a) (read_as 2 b)) _ (modes_of a) (sum_terms minus (read_as 1 a) (read_as 2 b)) r after g z form
 
   pub sum_terms_is : terms_of (take r.len after) ≡ sum_terms minus (read_as 1 a) (read_as 2 b)
-  sum_terms_is = output_terms room 0 (operands_refusal (read_as 1 a) (read_as 2 b)) _ (modes_of a) (sum_terms minus (read_as 1 a) (read_as 2 b)) r after g z form
+  sum_terms_is =
+      output_terms room 0 (operands_refusal (read_as 1 a) (read_as 2 b)) _ (modes_of a) (sum_terms minus (read_as 1 a) (read_as 2 b)) r after g z form
 
   -- its elements are those of the first record plus those of the second, with the sign
   pub sum_elements : (bra ket : ℕ) → element bra ket (terms_of (take r.len after)) ≡ element bra ket (terms_of a) +ℤ signed minus (element bra ket (terms_of b))
   sum_elements bra ket =
       ap (element bra ket) sum_terms_is ∙ element_normal bra ket both
-      ∙ sum_append (part bra ket) (terms_of a) (map (turn minus) (terms_of b)) ∙ ap (λ (x : ℤ). element bra ket (terms_of a) +ℤ x) (element_turn bra ket minus (terms_of b))
+      ∙ sum_append (part bra ket) (terms_of a) (map (turn minus) (terms_of b))
+      ∙ ap (λ (x : ℤ). element bra ket (terms_of a) +ℤ x) (element_turn bra ket minus (terms_of b))
 
 -- ADD: at every bra and ket the element of what is written is the sum of the two records' elements
 pub add_elements : (room : ℕ) (a b : List ℕ) (r : Written) (after : List ℕ) → Gives (added room (read_as 1 a) (read_as 2 b)) r after

@@ -50,7 +50,8 @@ module _ (h : ProductHelper) (z : ℤ) (l : List ℕ) (s : Fill) (r : Room l s) 
         ap (λ (n : ℕ). 2 ^ n) (bifurcation_number h.l_cre h.l_ann h.r_cre h.r_ann w small is)
         ∙ sym (rows_number h.l_cre h.l_ann h.r_cre h.r_ann z full)
 
-    pub too_many : leb (24 * 2 ^ ones w) (length l - s.held) ≡ false → (m : List ℕ) → Appended (rows_of h z) l s m (record { used = s.used; held = length l + 1 })
+    pub too_many : leb (24 * 2 ^ ones w) (length l - s.held) ≡ false → (m : List ℕ)
+        → Appended (rows_of h z) l s m (record { used = s.used; held = length l + 1 })
     too_many e m = over (omega (arith, number, leb-false (24 * 2 ^ ones w) (length l - s.held) e)) (omega arith)
 
     module _ (e : leb (24 * 2 ^ ones w) (length l - s.held) ≡ true) where

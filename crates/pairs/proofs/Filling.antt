@@ -66,7 +66,8 @@ adds_then A B {l} {m} {n} {s} {r} {q} a h b = record {
 }
 
 -- the last row of the first product in hand while the second is written
-module _ {A : List Term} {l : List ℕ} {s : Fill} {m : List ℕ} {one : Fill} (p : Product A l s m one) (h : one.held ≤ length m) (some : one.used ≡ s.used → ⊥) where
+module _ {A : List Term} {l : List ℕ} {s : Fill} {m : List ℕ} {one : Fill} (p : Product A l s m one)
+    (h : one.held ≤ length m) (some : one.used ≡ s.used → ⊥) where
   abbrev rest : Fill
   rest = record { used = one.used - 24; held = one.held }
 
@@ -108,7 +109,8 @@ module _ {A : List Term} {l : List ℕ} {s : Fill} {m : List ℕ} {one : Fill} (
 
           first : rows_at m 0 k ++ (x ∷ []) ≡ rows_at l 0 f.count ++ A
           first =
-              ap (λ (t : Term). rows_at m 0 k ++ (t ∷ [])) (is ∙ ap (row_at m) (ends ∙ sym (zero-add (24 * k)))) ∙ sym (rows_more m 0 k) ∙ ap (rows_at m 0) (sym count)
+              ap (λ (t : Term). rows_at m 0 k ++ (t ∷ [])) (is ∙ ap (row_at m) (ends ∙ sym (zero-add (24 * k))))
+              ∙ sym (rows_more m 0 k) ∙ ap (rows_at m 0) (sym count)
               ∙ counted.rows f.count f.used
 
           all : Stands ((rows_at m 0 k ++ B) ++ (x ∷ [])) (ts ++ (A ++ B))
@@ -140,7 +142,9 @@ module _ {A : List Term} {l : List ℕ} {s : Fill} {m : List ℕ} {one : Fill} (
                 held = settled_held ts f a v;
                 count = k + length B + 1;
                 used = omega (arith, u, used);
-                rows = stands_trans (stands_same _ _ (w (k + length B) used ∙ ap (λ (z : List Term). z ++ (x ∷ [])) (d k (ends ts f k count)))) (all ts f k count);
+                rows =
+                    stands_trans (stands_same _ _ (w (k + length B) used ∙ ap (λ (z : List Term). z ++ (x ∷ [])) (d k (ends ts f k count))))
+                    (all ts f k count);
               }
           settled_filled ts f (filling.fits a b c d) (cancelled u v w y) =
               let k = f.count + length A - 1 in

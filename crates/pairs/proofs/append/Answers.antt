@@ -20,10 +20,9 @@ overflow_add-result c =
 
 pub returns-then-rows_fit : goal.returns-then-rows_fit
 returns-then-rows_fit c =
-    let k = c.well_formed.1.1.0 in
     let rows =
-    rows_fit c.args.helper.l_cre c.args.helper.l_ann c.args.helper.r_cre c.args.helper.r_ann k.1.1.0.1 k.1.1.1.0.1
-    k.1.1.1.1.0.1 k.1.1.1.1.1.0.1 c.args.coeff c.requires.1 in
+    rows_fit c.args.helper.l_cre c.args.helper.l_ann c.args.helper.r_cre c.args.helper.r_ann
+    (search rules) (search rules) (search rules) (search rules) c.args.coeff c.requires.1 in
     appended c.args.helper c.args.coeff c.args.work.now c.args.s c.requires.0 c.bifurcations-left.result c.bifurcations-left.type_inv
     (full_where _ _ c.destroys.ensures c.if-destroys.false) c.bifurcations-left.ensures
     (sym c.rows_fit.ensures ∙ c.if-rows_fit.true) rows _ _ (rw (to_z-of_z c.ranges.coeff) at c.put_rows-end.ensures.0)

@@ -6,5 +6,6 @@ use Rattle.pairs.proofs.append_all.Given as goal
 
 abbrev pub invariant-loop-i : goal.invariant-loop-i
 invariant-loop-i l =
-    Progress (all_rows l.both l.sign.0 (terms_in l.a l.na) (terms_in l.b l.nb)) (all_rows l.both l.sign.0 (drop l.i (terms_in l.a l.na)) (terms_in l.b l.nb)) l.initial.work
+    Progress (all_rows l.both l.sign.0 (terms_in l.a l.na) (terms_in l.b l.nb))
+    (all_rows l.both l.sign.0 (drop l.i (terms_in l.a l.na)) (terms_in l.b l.nb)) l.initial.work
     (record { used = 0; held = 0 }) l.work l.at
