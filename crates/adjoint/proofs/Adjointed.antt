@@ -46,7 +46,8 @@ module _ (room : ℕ) (l : List ℕ) (c : Checked) (k : Accepted 1 l c) where
       let short : Err output_too_short ≡ room_refusal room (length (adjoint_terms (terms_of l))) = rw (lt-leb _ _ (rw length_is at h)) in
       refused_late room 0 (refusal_of 1 l) _ (modes_of l) (adjoint_terms (terms_of l)) k.fine output_too_short short
 
-  pub adjointed_filled : record_length c.terms ≤ room → filled_output room 0 (encode c.modes (adjoint_terms (terms_in l c.terms))) ≡ adjointed room (read_as 1 l)
+  pub adjointed_filled : record_length c.terms ≤ room
+      → filled_output room 0 (encode c.modes (adjoint_terms (terms_in l c.terms))) ≡ adjointed room (read_as 1 l)
   adjointed_filled h =
       let long : none ≡ room_refusal room (length (adjoint_terms (terms_of l))) = rw (le-leb _ _ (rw length_is at h)) in
       rw (k.terms, modes_are) (delivers room 0 (refusal_of 1 l) _ (modes_of l) (adjoint_terms (terms_of l)) k.fine _ long)

@@ -1,4 +1,5 @@
--- What the comparison says of two records that it accepts: equal exactly if all elements agree, and then the bytes do; otherwise the elements at the pair named differ.
+-- What the comparison says of two records that it accepts: equal exactly if all elements agree, and then the bytes do;
+-- otherwise the elements at the pair named differ.
 use mathlib.Core.Path.{◌≡◌, refl, sym, ap, ◌∙◌, subst}
 use mathlib.Core.List.{List}
 use mathlib.Core.Logic.{◌⊎◌, inl, inr}

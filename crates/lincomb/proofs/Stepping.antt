@@ -134,7 +134,8 @@ module _ (minus : Bool) (a : List ℕ) (na i : ℕ) (b : List ℕ) (nb j : ℕ) 
       step_greater w is greater =
           let f : before u' t ≡ true = turned_before ∙ greater in
           record {
-            front = ap₂ merge p.left second ∙ merge_greater t u' _ _ e f ∙ ap₂ (λ (x : Term) (ts : List Term). x ∷ merge ts (rest (j + 1))) (sym is) (sym p.left);
+            front =
+                ap₂ merge p.left second ∙ merge_greater t u' _ _ e f ∙ ap₂ (λ (x : Term) (ts : List Term). x ∷ merge ts (rest (j + 1))) (sym is) (sym p.left);
             left = sym (add-zero i) ∙ of_left true f;
             right = of_right false e;
             left_in = omega (arith, p.left_there);

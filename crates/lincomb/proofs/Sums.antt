@@ -48,11 +48,8 @@ module _ (minus : Bool) (a b out : List ℕ) where
     ready : Opens a b p
     ready = opens a b p ep
 
-    pub sound_left : Sound a p.left
-    sound_left = sound 1 a p.left ready.one ready.left
-
-    pub sound_right : Sound b p.right
-    sound_right = sound 2 b p.right ready.two ready.right
+    pub both_sound : Sound a p.left × Sound b p.right
+    both_sound = (sound 1 a p.left ready.one ready.left, sound 2 b p.right ready.two ready.right)
 
     -- the terms that the code goes through
     abbrev pub terms : List Term
@@ -105,7 +102,8 @@ module _ (minus : Bool) (room : ℕ) (a b : List ℕ) (r : Written) (after : Lis
       let left = accepted_canonical 1 a (first_fine a b fine.0) in
       let right : Every (Inside (modes_of a)) (terms_of b) = rw (same_modes a b fine.0) (accepted_canonical 2 b (second_fine a b fine.0)).inside in
       result_canonical (modes_of a) both left.some left.most
-      (every_append (terms_of a) (map (turn minus) (terms_of b)) left.inside (every_map (turn minus) (terms_of b) (inside_turn (modes_of a) minus) right)) room fine.1
+      (every_append (terms_of a) (map (turn minus) (terms_of b)) left.inside
+      (every_map (turn minus) (terms_of b) (inside_turn (modes_of a) minus) right)) room fine.1
 
   -- the output's record is accepted
   pub sum_accepted : (o : ℕ) → refusal_of o (take r.len after) ≡ none
@@ -121,7 +119,8 @@ module _ (minus : Bool) (room : ℕ) (a b : List ℕ) (r : Written) (after : Lis
   pub sum_elements : (bra ket : ℕ) → element bra ket (terms_of (take r.len after)) ≡ element bra ket (terms_of a) +ℤ signed minus (element bra ket (terms_of b))
   sum_elements bra ket =
       ap (element bra ket) sum_terms_is ∙ element_normal bra ket both
-      ∙ sum_append (part bra ket) (terms_of a) (map (turn minus) (terms_of b)) ∙ ap (λ (x : ℤ). element bra ket (terms_of a) +ℤ x) (element_turn bra ket minus (terms_of b))
+      ∙ sum_append (part bra ket) (terms_of a) (map (turn minus) (terms_of b))
+      ∙ ap (λ (x : ℤ). element bra ket (terms_of a) +ℤ x) (element_turn bra ket minus (terms_of b))
 
 -- ADD: at every bra and ket the element of what is written is the sum of the two records' elements
 pub add_elements : (room : ℕ) (a b : List ℕ) (r : Written) (after : List ℕ) → Gives (added room (read_as 1 a) (read_as 2 b)) (Ok r) after → (bra ket : ℕ)

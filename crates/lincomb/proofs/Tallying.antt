@@ -52,9 +52,6 @@ pub record Tallying (whole left : List Term) (n w : ℕ) : Type 0 where
   pub terms : n + length (drop_zeros left) ≡ length (drop_zeros whole)
   pub weigh : w + weight left ≡ weight whole
 
-pub tally_starts : (whole : List Term) → Tallying whole whole 0 0
-tally_starts whole = record { terms = omega arith; weigh = omega arith }
-
 pub tally_goes : (whole left rest : List Term) (n w : ℕ) → Tallying whole left n w → (t : Term) → left ≡ t ∷ rest → (k o : ℕ) → k ≡ nat_abs t.coeff
     → o ≡ cond (eqb k 0) 0 1 → Tallying whole rest (n + o) (w + k)
 tally_goes whole left rest n w g t e k o ek eo =

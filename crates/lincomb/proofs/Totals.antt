@@ -24,7 +24,8 @@ module _ (f : Term → ℤ) (additive : Additive f) where
   sum_merge [] us = sym (+ℤ_idl (sum_of f us))
   sum_merge (t ∷ ts) [] = sym (+ℤ_idr (f t +ℤ sum_of f ts))
   sum_merge (t ∷ ts) (u ∷ us) =
-      go (merge ts (u ∷ us)) (merge (t ∷ ts) us) (merge ts us) (sum_merge ts (u ∷ us)) (sum_merge (t ∷ ts) us) (sum_merge ts us) (before t u) (before u t) refl refl
+      go (merge ts (u ∷ us)) (merge (t ∷ ts) us) (merge ts us) (sum_merge ts (u ∷ us)) (sum_merge (t ∷ ts) us) (sum_merge ts us)
+      (before t u) (before u t) refl refl
     where
       go : (a b c : List Term) → sum_of f a ≡ sum_of f ts +ℤ (f u +ℤ sum_of f us) → sum_of f b ≡ (f t +ℤ sum_of f ts) +ℤ sum_of f us
           → sum_of f c ≡ sum_of f ts +ℤ sum_of f us → (x y : Bool) → before t u ≡ x → before u t ≡ y

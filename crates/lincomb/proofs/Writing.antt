@@ -1,7 +1,7 @@
 -- Terms written one by one, wherever they come from; those with a zero coefficient are left out.
-use mathlib.Core.Path.{◌≡◌, refl, sym, ap, ◌∙◌}
+use mathlib.Core.Path.{◌≡◌, sym, ap, ◌∙◌}
 use mathlib.Core.List.{List, [], ◌∷◌, ◌++◌, append_assoc, append-nil}
-use Prim.Native.Nat.{ℕ, ◌+◌, ◌≤◌, ◌<◌, zero-le}
+use Prim.Native.Nat.{ℕ, ◌+◌, ◌≤◌, ◌<◌}
 use native.Mathlib.Omega.{arith}
 use lib.IntN.{nat_abs}
 use lib.ListN.{length, take, set, length-append, length-take}
@@ -16,9 +16,6 @@ use Rattle.normal.proofs.Sizes.{drop_none, drop_keeps, drop_leaves}
 pub record Writing (n : ℕ) (whole left : List Term) (k : ℕ) (out : List ℕ) : Type 0 where
   pub small : k ≤ n
   pub all : drop_zeros whole ≡ take k (terms_in out n) ++ drop_zeros left
-
-pub writing_starts : (n : ℕ) (whole : List Term) (out : List ℕ) → Writing n whole whole 0 out
-writing_starts n whole out = record { small = zero-le; all = refl }
 
 module _ (n : ℕ) (whole left : List Term) (len : n ≡ length (drop_zeros whole)) (k : ℕ) (out : List ℕ) (g : Writing n whole left k out) where
   -- k of them, and those to come, are n

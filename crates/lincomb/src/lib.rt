@@ -102,6 +102,7 @@ fn count_terms(sign: Sign, a: &[u8], na: usize, b: &[u8], nb: usize) -> Tally
     let mut j = 0;
     let mut n = 0;
     let mut w = 0;
+    // A step takes a term of one record or of both, so no range counts the steps.
     while i + j < na + nb {
         let s = next(sign, a, na, i, b, nb, j);
         let t = s.term;
@@ -135,6 +136,7 @@ fn write_sum(
     let mut i = 0;
     let mut j = 0;
     let mut k = 0;
+    // A step takes a term of one record or of both, so no range counts the steps.
     while i + j < na + nb {
         let s = next(sign, a, na, i, b, nb, j);
         let t = s.term;

@@ -20,7 +20,7 @@ use Rattle.modes.specs.Every.{Every}
 use Rattle.lent.specs.Rows.{rows_bytes, rows_at, Fit}
 use Rattle.lent.proofs.RowLaws.{rows_put_all}
 use Rattle.products.specs.Product.{not_empty, branching, rows_times}
-use Rattle.products.specs.Fitting.{Fitting, rows_of}
+use Rattle.products.specs.Fitting.{rows_of}
 use Rattle.products.specs.declared.ProductHelper.{ProductHelper}
 use Rattle.products.proofs.Multiplied.{bifurcation_number, rows_none, rows_number}
 use Rattle.pairs.specs.Filling.{Room, Appended, fits, over}
@@ -50,15 +50,13 @@ module _ (h : ProductHelper) (z : ℤ) (l : List ℕ) (s : Fill) (r : Room l s) 
         ap (λ (n : ℕ). 2 ^ n) (bifurcation_number h.l_cre h.l_ann h.r_cre h.r_ann w small is)
         ∙ sym (rows_number h.l_cre h.l_ann h.r_cre h.r_ann z full)
 
-    pub too_many : leb (24 * 2 ^ ones w) (length l - s.held) ≡ false → (m : List ℕ) → Appended (rows_of h z) l s m (record { used = s.used; held = length l + 1 })
+    pub too_many : leb (24 * 2 ^ ones w) (length l - s.held) ≡ false → (m : List ℕ)
+        → Appended (rows_of h z) l s m (record { used = s.used; held = length l + 1 })
     too_many e m = over (omega (arith, number, leb-false (24 * 2 ^ ones w) (length l - s.held) e)) (omega arith)
 
     module _ (e : leb (24 * 2 ^ ones w) (length l - s.held) ≡ true) where
       enough : 24 * 2 ^ ones w ≤ length l - s.held
       enough = leb-true (24 * 2 ^ ones w) (length l - s.held) e
-
-      pub fitting : Fitting h w (length l - s.used)
-      fitting = record { full = full; modes = is; fit = omega (arith, enough, r.few) }
 
       grown : s.held + 24 * length (rows_of h z) ≤ length l
       grown = omega (arith, number, enough, r.fits)

@@ -65,14 +65,9 @@ adds_then A B {l} {m} {n} {s} {r} {q} a h b = record {
   grows = λ ts f. filled_as (append_assoc ts A B) (b.grows (ts ++ A) (not_over (ts ++ A) m r h (a.grows ts f)));
 }
 
-pub adds_over : (A B : List Term) {l m : List ℕ} {s r : Fill} → Adds A l s m r → length m < r.held → Adds (A ++ B) l s m r
-adds_over A B {l} {m} {s} {r} a h = record {
-  room = λ k. absurd (omega arith);
-  grows = λ ts f. filled_as (append_assoc ts A B) (over_more (ts ++ A) B m r h (a.grows ts f));
-}
-
 -- the last row of the first product in hand while the second is written
-module _ {A : List Term} {l : List ℕ} {s : Fill} {m : List ℕ} {one : Fill} (p : Product A l s m one) (h : one.held ≤ length m) (some : one.used ≡ s.used → ⊥) where
+module _ {A : List Term} {l : List ℕ} {s : Fill} {m : List ℕ} {one : Fill} (p : Product A l s m one)
+    (h : one.held ≤ length m) (some : one.used ≡ s.used → ⊥) where
   abbrev rest : Fill
   rest = record { used = one.used - 24; held = one.held }
 
@@ -97,12 +92,6 @@ module _ {A : List Term} {l : List ℕ} {s : Fill} {m : List ℕ} {one : Fill} (
   pub last_row : 24 ≤ one.used
   last_row = omega (arith, counted.used, counted.more)
 
-  pub last_fits : one.used - 24 + 24 ≤ length m
-  last_fits = omega (arith, (product_room p h).few, last_row)
-
-  pub rest_room : Room m rest
-  rest_room = record { few = omega (arith, (product_room p h).few); fits = h }
-
   module _ (B : List Term) {n : List ℕ} {two : Fill} (len2 : length n ≡ length m) (g2 : Appended B m rest n two) where
     pub second_over : length n < two.held → Adds (A ++ B) l s n two
     second_over k = record { room = λ j. absurd (omega arith); grows = λ ts f. go ts f g2 }
@@ -112,13 +101,6 @@ module _ {A : List Term} {l : List ℕ} {s : Fill} {m : List ℕ} {one : Fill} (
         go ts f (filling.over a b) = over (omega (arith, a, len2, counted.held, f.held, length-append ts (A ++ B), length-append A B)) k
 
     module _ (h2 : two.held ≤ length n) where
-      pub settle_room : two.used + 24 ≤ length n
-      settle_room = go g2
-        where
-          go : Appended B m rest n two → two.used + 24 ≤ length n
-          go (filling.fits a b c d) = omega (arith, a, b, last_row, (product_room p h).few)
-          go (filling.over a b) = absurd (omega (arith, len2))
-
       module _ (x : Term) (is : x ≡ row_at m (one.used - 24)) where
         -- the rows of both products, the one in hand last
         module _ (ts : List Term) (f : Filled ts l s) (k : ℕ) (count : f.count + length A ≡ k + 1) where
@@ -127,7 +109,8 @@ module _ {A : List Term} {l : List ℕ} {s : Fill} {m : List ℕ} {one : Fill} (
 
           first : rows_at m 0 k ++ (x ∷ []) ≡ rows_at l 0 f.count ++ A
           first =
-              ap (λ (t : Term). rows_at m 0 k ++ (t ∷ [])) (is ∙ ap (row_at m) (ends ∙ sym (zero-add (24 * k)))) ∙ sym (rows_more m 0 k) ∙ ap (rows_at m 0) (sym count)
+              ap (λ (t : Term). rows_at m 0 k ++ (t ∷ [])) (is ∙ ap (row_at m) (ends ∙ sym (zero-add (24 * k))))
+              ∙ sym (rows_more m 0 k) ∙ ap (rows_at m 0) (sym count)
               ∙ counted.rows f.count f.used
 
           all : Stands ((rows_at m 0 k ++ B) ++ (x ∷ [])) (ts ++ (A ++ B))
@@ -159,7 +142,9 @@ module _ {A : List Term} {l : List ℕ} {s : Fill} {m : List ℕ} {one : Fill} (
                 held = settled_held ts f a v;
                 count = k + length B + 1;
                 used = omega (arith, u, used);
-                rows = stands_trans (stands_same _ _ (w (k + length B) used ∙ ap (λ (z : List Term). z ++ (x ∷ [])) (d k (ends ts f k count)))) (all ts f k count);
+                rows =
+                    stands_trans (stands_same _ _ (w (k + length B) used ∙ ap (λ (z : List Term). z ++ (x ∷ [])) (d k (ends ts f k count))))
+                    (all ts f k count);
               }
           settled_filled ts f (filling.fits a b c d) (cancelled u v w y) =
               let k = f.count + length A - 1 in

@@ -1,5 +1,5 @@
 -- The coefficients of a pair of terms, as the code makes them, and the rows of one pair after the other.
-use mathlib.Core.Path.{◌≡◌, refl, sym, ap, ap₂, ◌∙◌, subst}
+use mathlib.Core.Path.{◌≡◌, sym, ap, ap₂, ◌∙◌, subst}
 use mathlib.Core.Bool.{Bool, true, false}
 use mathlib.Core.List.{List, [], ◌++◌, append-nil, append_assoc}
 use Prim.Native.Nat.{ℕ, ◌*◌, ◌^◌, ◌≤◌, ◌<◌}
@@ -35,9 +35,6 @@ module _ (minus : Bool) (t u : Term) (ft : SFits w64 t.coeff) (fu : SFits w64 u.
   bits : to_z w64 (of_z w64 p) ≡ p
   bits = to_z-of_z (abs_fits p below)
 
-  pub product_below : nat_abs (to_z w64 (of_z w64 p)) < 2 ^ 63
-  product_below = rw bits below
-
   pub one_order : {l m : List ℕ} {s r : Fill} → Adds (rows_times t.cre t.ann u.cre u.ann p) l s m r → Adds (pair_rows false minus t u) l s m r
   unfolding pair_rows
   one_order {l} {m} {s} {r} g =
@@ -51,9 +48,6 @@ module _ (minus : Bool) (t u : Term) (ft : SFits w64 t.coeff) (fu : SFits w64 u.
 
     swapped_fits : nat_abs q < 2 ^ 63
     swapped_fits = rw (swapped_is, abs_signed minus p) below
-
-    pub swapped_below : nat_abs (to_z w64 (of_z w64 q)) < 2 ^ 63
-    swapped_below = rw (to_z-of_z (abs_fits q swapped_fits)) swapped_fits
 
     pub both_orders : {l m : List ℕ} {s r : Fill}
         → Adds (rows_times t.cre t.ann u.cre u.ann (to_z w64 (of_z w64 p)) ++ rows_times u.cre u.ann t.cre t.ann (to_z w64 (of_z w64 q))) l s m r
@@ -72,15 +66,6 @@ pub record Progress (whole left : List Term) (l₀ : List ℕ) (s₀ : Fill) (l 
   pub done : List Term
   pub all : whole ≡ done ++ left
   pub adds : (ts : List Term) → Filled ts l₀ s₀ → Filled (ts ++ done) l s
-
-pub progress_starts : (whole : List Term) (l : List ℕ) (s : Fill) → Room l s → Progress whole whole l s l s
-progress_starts whole l s r = record {
-  len = refl;
-  room = r;
-  done = [];
-  all = refl;
-  adds = λ ts f. subst (λ (us : List Term). Filled us l s) (sym (append-nil ts)) f;
-}
 
 module _ (whole left : List Term) (l₀ : List ℕ) (s₀ : Fill) (l : List ℕ) (s : Fill) (g : Progress whole left l₀ s₀ l s) where
   pub progress_ends : left ≡ [] → Adds whole l₀ s₀ l s

@@ -1,33 +1,22 @@
 -- Rows that stand for others: after more rows, in another order, and where two rows cancel.
-use mathlib.Core.Path.{◌≡◌, refl, sym, ap, ap₂, ◌∙◌, subst}
+use mathlib.Core.Path.{◌≡◌, refl, sym, ap, ap₂, ◌∙◌}
 use mathlib.Core.Bool.{Bool, true, false, cond, ◌&&◌}
 use mathlib.Core.List.{List, [], ◌∷◌, ◌++◌}
-use Prim.Native.Nat.{ℕ, suc, ◌+◌, ◌-◌, ◌*◌, ◌≤◌}
+use Prim.Native.Nat.{ℕ, ◌+◌, ◌*◌, ◌≤◌}
 use native.Mathlib.Nat.{le_refl, le_trans, zero-add}
 use native.Mathlib.Omega.{arith}
 use lib.Dec.{eqb}
-use lib.IntN.{ℤ, pos, negsuc, nat_abs, ◌+ℤ◌, +ℤ_idr, +ℤ_invr, +ℤ_assoc, +ℤ_comm}
+use lib.IntN.{ℤ, pos, ◌+ℤ◌, +ℤ_idr, +ℤ_assoc, +ℤ_comm}
 use lib.ListN.{length}
-use mir.Syntax.{w64}
-use mir.Val.{SFits, to_z, of_z}
-use mir.Facts.{to_z-of_z}
-use borrow.Author.Tests.{eqb-true}
 use Rattle.modes.specs.declared.Term.{Term}
 use Rattle.modes.proofs.Sums.{sum_append, sum_last}
-use Rattle.lent.specs.Rows.{row_at, put_row, rows_at, Fit}
+use Rattle.lent.specs.Rows.{put_row, rows_at, Fit}
 use Rattle.lent.proofs.RowLaws.{rows_put}
 use Rattle.record.specs.Coefficients.{coeff_in, coeff_of}
 use Rattle.collect.specs.KeyWeights.{key_weight}
 use Rattle.collect.proofs.KeyWeights.{weight_append}
-use Rattle.pairs.specs.Filling.{Stands, Opposite, Settled, cancelled, kept}
+use Rattle.pairs.specs.Filling.{Stands, Opposite, Settled, kept}
 use Rattle.pairs.specs.declared.Fill.{Fill}
-
--- numbers as far from zero as each other, and not the same, add up to nothing
-opposite_sum : (x y : ℤ) → nat_abs x ≡ nat_abs y → (x ≡ y → ⊥) → x +ℤ y ≡ pos 0
-opposite_sum (pos a) (pos b) e n = absurd (n (ap pos e))
-opposite_sum (pos a) (negsuc b) e n = ap (λ (k : ℕ). pos k +ℤ negsuc b) e ∙ +ℤ_invr (pos (suc b))
-opposite_sum (negsuc a) (pos b) e n = ap (λ (k : ℕ). negsuc a +ℤ pos k) (sym e) ∙ +ℤ_invr (negsuc a)
-opposite_sum (negsuc a) (negsuc b) e n = let same : a ≡ b = omega arith in absurd (n (ap negsuc same))
 
 pub stands_same : (us ts : List Term) → us ≡ ts → Stands us ts
 stands_same us ts e = record { coeff = λ c a. ap (coeff_of c a) e; light = λ c a. rw e (le_refl (key_weight c a ts)) }
@@ -74,21 +63,8 @@ stands_cancel us x y o = record {
     nothing c a =
         ap (λ (z : ℤ). z +ℤ coeff_in c a y) (ap₂ (λ (p q : ℕ). cond (eqb p a && eqb q c) x.coeff (pos 0)) o.ann o.cre) ∙ at (eqb y.ann a && eqb y.cre c)
 
--- as the code finds them
-pub opposite_rows : (x y : Term) → SFits w64 x.coeff → SFits w64 y.coeff → x.ann ≡ y.ann → x.cre ≡ y.cre
-    → (of_z w64 x.coeff ≡ of_z w64 y.coeff → ⊥) → (p q : ℕ) → p ≡ nat_abs (to_z w64 (of_z w64 x.coeff)) → q ≡ nat_abs (to_z w64 (of_z w64 y.coeff))
-    → eqb p q ≡ true → Opposite x y
-opposite_rows x y fx fy ea ec n p q ep eq e = record {
-  ann = ea;
-  cre = ec;
-  coeff = opposite_sum x.coeff y.coeff (sym (ap nat_abs (to_z-of_z fx)) ∙ sym ep ∙ eqb-true p q e ∙ eq ∙ ap nat_abs (to_z-of_z fy)) (λ same. n (ap (of_z w64) same));
-}
-
 -- the row in hand, settled
 module _ (x : Term) (l : List ℕ) (s : Fill) where
-  pub settled_cancelled : 24 ≤ s.used → (y : Term) → y ≡ row_at l (s.used - 24) → Opposite x y → Settled x l s l (record { used = s.used - 24; held = s.held })
-  settled_cancelled h y e o = cancelled (omega arith) refl refl (subst (Opposite x) e o)
-
   pub settled_kept : s.used + 24 ≤ length l → Fit x → (m : List ℕ) → m ≡ put_row l s.used x → Settled x l s m (record { used = s.used + 24; held = s.held })
   settled_kept h f m e =
       kept refl refl (λ count q. ap (λ (k : List ℕ). rows_at k 0 (count + 1)) (e ∙ ap (λ (o : ℕ). put_row l o x) (q ∙ sym (zero-add (24 * count))))

@@ -1,4 +1,5 @@
--- No two answers meet the promise of `helper_of`. `append_all` leaves open which rows cancelled on the way, and what stands in the work where they are too many.
+-- No two answers meet the promise of `helper_of`. `append_all` leaves open which rows cancelled on the way,
+-- and what stands in the work where they are too many.
 use mathlib.Core.Path.{◌≡◌}
 use mathlib.Core.List.{List}
 use Prim.Native.Nat.{ℕ, ◌<◌}

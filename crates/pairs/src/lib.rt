@@ -60,16 +60,10 @@ fn append(work: &mut [u8], s: Fill, helper: ProductHelper, coeff: i64) -> Fill
 fn cancels(x: Term, y: Term) -> bool
     ensures { result ≡ true → Opposite x y }
 {
-    if x.ann != y.ann {
-        return false;
-    }
-    if x.cre != y.cre {
-        return false;
-    }
-    if x.coeff == y.coeff {
-        return false;
-    }
-    integers::magnitude(x.coeff) == integers::magnitude(y.coeff)
+    x.ann == y.ann
+        && x.cre == y.cre
+        && x.coeff != y.coeff
+        && integers::magnitude(x.coeff) == integers::magnitude(y.coeff)
 }
 
 // The row in hand cancels the last row, or goes after it.
@@ -146,14 +140,12 @@ fn append_with(
     ensures { Adds (rows_with both sign.0 t (terms_in b.now n)) work.old s work.new result }
 {
     let mut at = s;
-    let mut j = 0;
-    while j < n {
+    for j in 0..n {
         let u = record::read_term(b, n, j);
         at = append_pair(both, sign, work, at, t, u);
         if work.len() < at.held {
             return at;
         }
-        j += 1;
     }
     at
 }
@@ -172,14 +164,12 @@ pub fn append_all(
     ensures { Grown (all_rows both sign.0 (terms_in a.now na) (terms_in b.now nb)) work.new result }
 {
     let mut at = Fill { used: 0, held: 0 };
-    let mut i = 0;
-    while i < na {
+    for i in 0..na {
         let t = record::read_term(a, na, i);
         at = append_with(both, sign, work, at, t, b, nb);
         if work.len() < at.held {
             return at;
         }
-        i += 1;
     }
     at
 }

@@ -1,6 +1,6 @@
 -- `lincomb::combine` meets its contract: each way out gives what the definition says.
 use Rattle.record.proofs.Outputs.{gives_as}
-use Rattle.lincomb.proofs.Sums.{pair_refused, sound_left, sound_right, result_refused, room_enough, result_delivered}
+use Rattle.lincomb.proofs.Sums.{pair_refused, both_sound, result_refused, room_enough, result_delivered}
 use Rattle.lincomb.proofs.combine.Goals as goal
 
 pub returns-in-Err : goal.returns-in-Err

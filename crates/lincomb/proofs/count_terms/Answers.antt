@@ -1,18 +1,8 @@
 -- `lincomb::count_terms` meets its contract. The invariant: what is counted, with what is left, makes the whole.
-use borrow.Author.Rules.{rules}
 use native.Mathlib.Omega.{arith}
 use Rattle.lincomb.proofs.Stepping.{spent}
-use Rattle.lincomb.proofs.Tallying.{light_together, tally_starts, tally_goes, tally_light, tally_ends}
+use Rattle.lincomb.proofs.Tallying.{light_together, tally_goes, tally_light, tally_ends}
 use Rattle.lincomb.proofs.count_terms.Goals as goal
-
-pub loop-i-init : goal.loop-i-init
-loop-i-init c = (search rules, search rules, search rules, tally_starts _)
-
-pub next-s-requires : goal.next-s-requires
-next-s-requires c = record { sound = c.requires; inside = search rules }
-
-pub overflow_add-n : goal.overflow_add-n
-overflow_add-n c = omega (arith, c.kept-n.ensures.1, c.loop-i.invariant)
 
 pub overflow_add-w : goal.overflow_add-w
 overflow_add-w c =

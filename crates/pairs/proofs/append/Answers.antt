@@ -2,21 +2,13 @@
 use mir.Facts.{to_z-of_z}
 use Rattle.products.proofs.ProductTheorems.{rows_fit}
 use mathlib.Core.Path.{sym, ◌∙◌}
-use Rattle.pairs.proofs.Appending.{empty_where, full_where, none_appended, fitting, held_fits, appended, too_many}
+use Rattle.pairs.proofs.Appending.{empty_where, full_where, none_appended, held_fits, appended, too_many}
 use borrow.Author.Rules.{rules}
 use Rattle.pairs.proofs.append.Goals as goal
 
 pub returns-then-destroys : goal.returns-then-destroys
 returns-then-destroys c =
     none_appended c.args.helper c.args.coeff c.args.work.now c.args.s c.requires.0 (empty_where _ _ c.destroys.ensures c.if-destroys.true)
-
-pub put_rows-end-requires : goal.put_rows-end-requires
-put_rows-end-requires c = (
-  fitting c.args.helper c.args.coeff c.args.work.now c.args.s c.requires.0 c.bifurcations-left.result c.bifurcations-left.type_inv
-      (full_where _ _ c.destroys.ensures c.if-destroys.false) c.bifurcations-left.ensures
-      (sym c.rows_fit.ensures ∙ c.if-rows_fit.true),
-  rw (to_z-of_z c.ranges.coeff) c.requires.1,
-)
 
 pub overflow_add-result : goal.overflow_add-result
 overflow_add-result c =
@@ -28,10 +20,9 @@ overflow_add-result c =
 
 pub returns-then-rows_fit : goal.returns-then-rows_fit
 returns-then-rows_fit c =
-    let k = c.well_formed.1.1.0 in
     let rows =
-    rows_fit c.args.helper.l_cre c.args.helper.l_ann c.args.helper.r_cre c.args.helper.r_ann k.1.1.0.1 k.1.1.1.0.1
-    k.1.1.1.1.0.1 k.1.1.1.1.1.0.1 c.args.coeff c.requires.1 in
+    rows_fit c.args.helper.l_cre c.args.helper.l_ann c.args.helper.r_cre c.args.helper.r_ann
+    (search rules) (search rules) (search rules) (search rules) c.args.coeff c.requires.1 in
     appended c.args.helper c.args.coeff c.args.work.now c.args.s c.requires.0 c.bifurcations-left.result c.bifurcations-left.type_inv
     (full_where _ _ c.destroys.ensures c.if-destroys.false) c.bifurcations-left.ensures
     (sym c.rows_fit.ensures ∙ c.if-rows_fit.true) rows _ _ (rw (to_z-of_z c.ranges.coeff) at c.put_rows-end.ensures.0)

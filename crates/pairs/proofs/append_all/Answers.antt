@@ -1,5 +1,4 @@
 -- `pairs::append_all` meets its contract: of the rows of all pairs, some are there and the rest is to come.
-use mathlib.Core.Path.{◌∙◌}
 use mathlib.Core.List.{List, [], ◌++◌}
 use native.Mathlib.Omega.{arith}
 use Rattle.modes.specs.declared.Term.{Term}
@@ -8,27 +7,17 @@ use Rattle.record.specs.Terms.{weight}
 use Rattle.record.specs.Layout.{terms_in}
 use Rattle.record.proofs.Reading.{none_left}
 use Rattle.pairs.specs.Products.{rows_with}
-use Rattle.pairs.proofs.Pairing.{progress_starts, progress_goes, progress_over, progress_ends, from_nothing, one_light}
-use borrow.Author.Rules.{rules}
+use Rattle.pairs.proofs.Pairing.{progress_goes, progress_over, progress_ends, from_nothing, one_light}
 use Rattle.pairs.proofs.append_all.Goals as goal
-
-pub loop-i-init : goal.loop-i-init
-loop-i-init c = (search rules, progress_starts _ _ _ (record { few = omega arith; fits = omega arith }))
 
 pub append_with-at-requires : goal.append_with-at-requires
 append_with-at-requires c =
     let v = c.loop-i in (
-      v.invariant.1.room,
+      v.invariant.room,
       c.requires.1,
       one_light (terms_in c.args.a.now c.args.na) (weight (terms_in c.args.b.now c.args.nb)) v.i _
           c.read_term-t.ensures c.requires.2,
     )
-
-pub shape_of-work-then-work-at : goal.shape_of-work-then-work-at
-shape_of-work-then-work-at c =
-    let v = c.loop-i in
-    let step = c.append_with-at in
-    step.auto.work ∙ v.invariant.1.len
 
 pub returns-then-work-at : goal.returns-then-work-at
 returns-then-work-at c =
@@ -38,7 +27,7 @@ returns-then-work-at c =
     let with_b : Term → List Term = λ t. rows_with c.args.both c.args.sign.0 t (terms_in c.args.b.now c.args.nb) in
     let next = by_front ◌++◌ [] with_b got.ensures in
     from_nothing _ c.args.work.now _ _
-    (progress_over _ _ c.args.work.now _ v.work v.at v.invariant.1 (with_b got.result) _ next
+    (progress_over _ _ c.args.work.now _ v.work v.at v.invariant (with_b got.result) _ next
     step.new.work step.result step.auto.work step.ensures c.if-work-at.true)
 
 pub loop-i-preserved : goal.loop-i-preserved
@@ -47,19 +36,14 @@ loop-i-preserved c =
     let step = c.append_with-at in
     let got = c.read_term-t in
     let with_b : Term → List Term = λ t. rows_with c.args.both c.args.sign.0 t (terms_in c.args.b.now c.args.nb) in
-    let next = by_front ◌++◌ [] with_b got.ensures in (
-      omega (arith, c.loop-i-test),
-      progress_goes _ _ c.args.work.now _ v.work v.at v.invariant.1 (with_b got.result) _ next
-          step.new.work step.result step.auto.work step.ensures c.if-work-at.false,
-    )
-
-pub shape_of-work : goal.shape_of-work
-shape_of-work c = c.loop-i.invariant.1.len
+    let next = by_front ◌++◌ [] with_b got.ensures in
+    progress_goes _ _ c.args.work.now _ v.work v.at v.invariant (with_b got.result) _ next
+    step.new.work step.result step.auto.work step.ensures c.if-work-at.false
 
 pub returns : goal.returns
 returns c =
     let v = c.loop-i in
     from_nothing _ c.args.work.now _ _
-    (progress_ends _ _ c.args.work.now _ v.work v.at v.invariant.1
+    (progress_ends _ _ c.args.work.now _ v.work v.at v.invariant
     (by_nothing ◌++◌ [] (λ (t : Term). rows_with c.args.both c.args.sign.0 t (terms_in c.args.b.now c.args.nb))
     (none_left c.args.a.now c.args.na v.i (omega arith))))

@@ -1,4 +1,3 @@
-use Prim.Native.Nat.{◌-◌, ◌≤◌}
 use lib.ListN.{drop}
 use Rattle.record.specs.Layout.{terms_in}
 use Rattle.pairs.specs.Products.{all_rows}
@@ -7,9 +6,6 @@ use Rattle.pairs.proofs.append_all.Given as goal
 
 abbrev pub invariant-loop-i : goal.invariant-loop-i
 invariant-loop-i l =
-    (l.i ≤ l.na)
-    × Progress (all_rows l.both l.sign.0 (terms_in l.a l.na) (terms_in l.b l.nb)) (all_rows l.both l.sign.0 (drop l.i (terms_in l.a l.na)) (terms_in l.b l.nb)) l.initial.work
+    Progress (all_rows l.both l.sign.0 (terms_in l.a l.na) (terms_in l.b l.nb))
+    (all_rows l.both l.sign.0 (drop l.i (terms_in l.a l.na)) (terms_in l.b l.nb)) l.initial.work
     (record { used = 0; held = 0 }) l.work l.at
-
-abbrev pub decreases-loop-i : goal.decreases-loop-i
-decreases-loop-i l = l.na - l.i

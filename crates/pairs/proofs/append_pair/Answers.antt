@@ -1,38 +1,15 @@
 -- `pairs::append_pair` meets its contract: the coefficients are the product, and the product with the sign.
 use Rattle.pairs.proofs.Appending.{appended_as}
 use Rattle.pairs.proofs.Filling.{product_adds}
-use Rattle.pairs.proofs.Pairing.{product_below, swapped_below, one_order, both_orders}
+use Rattle.pairs.proofs.Pairing.{one_order, both_orders}
 use borrow.Author.Rules.{rules}
 use Rattle.pairs.proofs.append_pair.Goals as goal
-
-pub signed_coeff-swapped-requires : goal.signed_coeff-swapped-requires
-signed_coeff-swapped-requires c =
-    product_below c.args.sign.0 c.args.t c.args.u (search rules)
-    (search rules) c.requires.1 _ c.product-coeff.ensures
-
-pub append_both-requires : goal.append_both-requires
-append_both-requires c = (
-  c.requires.0,
-  product_below c.args.sign.0 c.args.t c.args.u (search rules)
-      (search rules) c.requires.1 _ c.product-coeff.ensures,
-  swapped_below
-      c.args.sign.0 c.args.t c.args.u (search rules)
-      (search rules) c.requires.1 _ c.product-coeff.ensures _
-      c.signed_coeff-swapped.ensures,
-)
 
 pub returns-then-both : goal.returns-then-both
 returns-then-both c =
     rw c.if-both.true (both_orders c.args.sign.0 c.args.t c.args.u (search rules)
     (search rules) c.requires.1 _ c.product-coeff.ensures _ c.signed_coeff-swapped.ensures
     c.append_both.ensures)
-
-pub append-requires : goal.append-requires
-append-requires c = (
-  c.requires.0,
-  product_below c.args.sign.0 c.args.t c.args.u (search rules)
-      (search rules) c.requires.1 _ c.product-coeff.ensures,
-)
 
 pub returns : goal.returns
 returns c =

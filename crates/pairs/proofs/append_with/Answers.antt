@@ -1,52 +1,36 @@
 -- `pairs::append_with` meets its contract: of the rows of one term with all, some are there and the rest is to come.
-use mathlib.Core.Path.{◌∙◌}
 use mathlib.Core.List.{[], ◌++◌}
 use native.Mathlib.Omega.{arith}
 use Rattle.modes.proofs.Sums.{by_front, by_nothing}
 use Rattle.record.specs.Layout.{terms_in}
 use Rattle.record.proofs.Reading.{none_left}
 use Rattle.pairs.specs.Products.{pair_rows}
-use Rattle.pairs.proofs.Pairing.{progress_starts, progress_goes, progress_over, progress_ends, pair_light}
-use borrow.Author.Rules.{rules}
+use Rattle.pairs.proofs.Pairing.{progress_goes, progress_over, progress_ends, pair_light}
 use Rattle.pairs.proofs.append_with.Goals as goal
-
-pub loop-j-init : goal.loop-j-init
-loop-j-init c = (search rules, progress_starts _ _ _ c.requires.0)
 
 pub append_pair-at-requires : goal.append_pair-at-requires
 append_pair-at-requires c =
     let v = c.loop-j in
-    (v.invariant.1.room, pair_light _ (terms_in c.args.b.now c.args.n) v.j _ c.read_term-u.ensures c.requires.2)
-
-pub shape_of-work-then-work-at : goal.shape_of-work-then-work-at
-shape_of-work-then-work-at c =
-    let v = c.loop-j in
-    let step = c.append_pair-at in
-    step.auto.work ∙ v.invariant.1.len
+    (v.invariant.room, pair_light _ (terms_in c.args.b.now c.args.n) v.j _ c.read_term-u.ensures c.requires.2)
 
 pub returns-then-work-at : goal.returns-then-work-at
 returns-then-work-at c =
     let v = c.loop-j in
     let step = c.append_pair-at in
     let next = by_front ◌++◌ [] (pair_rows c.args.both c.args.sign.0 c.args.t) c.read_term-u.ensures in
-    progress_over _ _ c.args.work.now c.args.s v.work v.at v.invariant.1 _ _ next step.new.work step.result step.auto.work step.ensures
+    progress_over _ _ c.args.work.now c.args.s v.work v.at v.invariant _ _ next step.new.work step.result step.auto.work step.ensures
     c.if-work-at.true
 
 pub loop-j-preserved : goal.loop-j-preserved
 loop-j-preserved c =
     let v = c.loop-j in
     let step = c.append_pair-at in
-    let next = by_front ◌++◌ [] (pair_rows c.args.both c.args.sign.0 c.args.t) c.read_term-u.ensures in (
-      omega (arith, c.loop-j-test),
-      progress_goes _ _ c.args.work.now c.args.s v.work v.at v.invariant.1 _ _ next step.new.work step.result step.auto.work step.ensures
-          c.if-work-at.false,
-    )
-
-pub shape_of-work : goal.shape_of-work
-shape_of-work c = c.loop-j.invariant.1.len
+    let next = by_front ◌++◌ [] (pair_rows c.args.both c.args.sign.0 c.args.t) c.read_term-u.ensures in
+    progress_goes _ _ c.args.work.now c.args.s v.work v.at v.invariant _ _ next step.new.work step.result step.auto.work step.ensures
+    c.if-work-at.false
 
 pub returns : goal.returns
 returns c =
     let v = c.loop-j in
-    progress_ends _ _ c.args.work.now c.args.s v.work v.at v.invariant.1
+    progress_ends _ _ c.args.work.now c.args.s v.work v.at v.invariant
     (by_nothing ◌++◌ [] (pair_rows c.args.both c.args.sign.0 c.args.t) (none_left c.args.b.now c.args.n v.j (omega arith)))
