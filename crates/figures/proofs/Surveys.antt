@@ -6,18 +6,19 @@ use Prim.Native.Nat.{ℕ, max}
 use native.Mathlib.Omega.{arith}
 use native.Mathlib.Nat.{max-zero, zero-max}
 use lib.Bits.{bit_or, or_zero_l, or_zero_r}
+use Rattle.std.specs.Prelude.{Ok, Err}
+use Rattle.modes.specs.declared.Refusal.{Refusal}
 use Rattle.modes.proofs.Refusals.{unless_not, unless_so}
 use Rattle.record.specs.Operands.{read_as}
 use Rattle.modes.specs.Words.{bit}
 use Rattle.modes.specs.declared.Term.{Term}
-use Rattle.modes.specs.Answers.{none}
 use Rattle.modes.proofs.Digits.{bit_of_or, ext}
-use Rattle.figures.specs.Figures.{conserves, conserving, rank_of, largest_rank, all_modes, figures_of, figures_in, no_figures}
+use Rattle.figures.specs.Figures.{conserves, conserving, rank_of, largest_rank, all_modes, figures_of, figures_in}
 use Rattle.record.specs.Layout.{terms_in}
 use Rattle.record.specs.Refusals.{refusal_of, checked_of}
 use Rattle.figures.specs.declared.Figures.{Figures}
 use Rattle.record.specs.declared.Checked.{Checked}
-use Rattle.record.proofs.Accepted.{Accepted, refused, refusal_told}
+use Rattle.record.proofs.Accepted.{Accepted, refused}
 
 union_assoc : (a b c : ℕ) → bit_or (bit_or a b) c ≡ bit_or a (bit_or b c)
 union_assoc a b c =
@@ -48,7 +49,7 @@ survey_goes ts left rest t e c d r s m g ed es =
     top = omega arith
 
 pub survey_ends : (ts left : List Term) → left ≡ [] → (c : Bool) (r m : ℕ) → Surveying ts left c r m
-    → ◌≡◌ {A = Figures} (record { refusal = none; conserving = c; rank = r; modes = m }) (figures_in ts)
+    → ◌≡◌ {A = Figures} (record { conserving = c; rank = r; modes = m }) (figures_in ts)
 unfolding conserving largest_rank all_modes
 survey_ends ts left e c r m g =
     let a : c ≡ conserving ts = sym (and-true c) ∙ (rw e at g.conserving) in
@@ -56,8 +57,8 @@ survey_ends ts left e c r m g =
     let d : m ≡ all_modes ts = sym (or_zero_r m) ∙ (rw e at g.modes) in
     rw (a, b, d)
 
-pub survey_refused : (l : List ℕ) (c : Checked) → c ≡ checked_of 1 l → (c.refusal.number ≡ 0 → ⊥) → no_figures c.refusal ≡ figures_of (read_as 1 l)
-survey_refused l c e h = rw (refusal_told 1 l c e) (sym (unless_so (refusal_of 1 l) no_figures _ (refused 1 l c e h)))
+pub survey_refused : (l : List ℕ) (r : Refusal) → Err r ≡ checked_of 1 l → Err r ≡ figures_of (read_as 1 l)
+survey_refused l r e = sym (unless_so (refusal_of 1 l) Err _ r (refused 1 l r e))
 
-pub survey_accepted : (l : List ℕ) (c : Checked) → Accepted 1 l c → figures_in (terms_in l c.terms) ≡ figures_of (read_as 1 l)
-survey_accepted l c k = rw k.terms (sym (unless_not (refusal_of 1 l) no_figures _ k.number))
+pub survey_accepted : (l : List ℕ) (c : Checked) (f : Figures) → Accepted 1 l c → f ≡ figures_in (terms_in l c.terms) → Ok f ≡ figures_of (read_as 1 l)
+survey_accepted l c f k e = rw (e, k.terms) (sym (unless_not (refusal_of 1 l) Err _ k.fine))

@@ -1,15 +1,12 @@
 -- What the terms of a record have in common: particle conservation, the largest rank, the active modes.
-use Rattle.std.specs.Prelude.{ℕ, max, Bool, true, false, ◌&&◌, List, [], ◌∷◌, eqb}
+use Rattle.std.specs.Prelude.{ℕ, max, Result, Bool, true, ◌&&◌, List, [], ◌∷◌, eqb}
 use Rattle.std.specs.Int.Bits.{bit_or}
 use Rattle.modes.specs.Terms.{creations, annihilations}
 use Rattle.modes.specs.declared.Term.{Term}
 use Rattle.modes.specs.declared.Refusal.{Refusal}
-use Rattle.modes.specs.Answers.{none}
-use Rattle.modes.specs.Refusals.{unless}
+use Rattle.modes.specs.Refusals.{answered}
 use Rattle.record.specs.Operands.{Operand}
 use Rattle.figures.specs.declared.Figures.{Figures}
-use Rattle.record.specs.declared.Tested.{Tested}
-use Rattle.figures.specs.declared.Measured.{Measured}
 
 -- as many creations as annihilations; and so in every term
 abbrev pub conserves : Term → Bool
@@ -33,22 +30,19 @@ unfoldable pub all_modes : List Term → ℕ
 all_modes [] = 0
 all_modes (t ∷ ts) = bit_or (bit_or t.cre t.ann) (all_modes ts)
 
--- the three together, all false and 0 after a refusal
-abbrev pub no_figures : Refusal → Figures
-no_figures r = record { refusal = r; conserving = false; rank = 0; modes = 0 }
-
+-- the three together
 abbrev pub figures_in : List Term → Figures
-figures_in ts = record { refusal = none; conserving = conserving ts; rank = largest_rank ts; modes = all_modes ts }
+figures_in ts = record { conserving = conserving ts; rank = largest_rank ts; modes = all_modes ts }
 
-abbrev pub figures_of : Operand → Figures
-figures_of a = unless a.refusal no_figures (figures_in a.terms)
+abbrev pub figures_of : Operand → Result Figures Refusal
+figures_of a = answered a.refusal (figures_in a.terms)
 
 -- what each call answers of a record
-abbrev pub conserves_of : Operand → Tested
-conserves_of a = let f = figures_of a in record { refusal = f.refusal; holds = f.conserving }
+abbrev pub conserves_of : Operand → Result Bool Refusal
+conserves_of a = answered a.refusal (conserving a.terms)
 
-abbrev pub max_n_body_of : Operand → Measured
-max_n_body_of a = let f = figures_of a in record { refusal = f.refusal; value = f.rank }
+abbrev pub max_n_body_of : Operand → Result ℕ Refusal
+max_n_body_of a = answered a.refusal (largest_rank a.terms)
 
-abbrev pub active_modes_of : Operand → Measured
-active_modes_of a = let f = figures_of a in record { refusal = f.refusal; value = f.modes }
+abbrev pub active_modes_of : Operand → Result ℕ Refusal
+active_modes_of a = answered a.refusal (all_modes a.terms)

@@ -8,14 +8,6 @@ ghost use Rattle.record.specs.Operands.{read_as};
 ghost use Rattle.figures.specs.Figures.{rank_of, conserves, figures_in, figures_of, conserves_of, max_n_body_of, active_modes_of};
 
 use modes::{Refusal, Term};
-use record::Tested;
-
-// A number found in a record; 0 where it is refused.
-#[derive(Clone, Copy)]
-pub struct Measured {
-    pub refusal: Refusal,
-    pub value: u64,
-}
 
 // The larger of two counts of modes, told by a bit of their difference: the compiler counts the modes of two words at once where
 // they are subtracted, and one after the other where they are compared.
@@ -50,7 +42,6 @@ pub fn larger(x: u64, y: u64) -> u64
 // What the terms of a record have in common: conservation, the largest rank, and all modes.
 #[derive(Clone, Copy)]
 struct Figures {
-    refusal: Refusal,
     conserving: bool,
     rank: u64,
     modes: u64,
@@ -71,7 +62,6 @@ fn survey_terms(s: &[u8], n: usize) -> Figures
         modes |= t.cre | t.ann;
     }
     Figures {
-        refusal: Refusal::NONE,
         conserving,
         rank: largest,
         modes,
@@ -79,55 +69,33 @@ fn survey_terms(s: &[u8], n: usize) -> Figures
 }
 
 // The figures of a record, or its refusal.
-fn survey(s: &[u8]) -> Figures
+fn survey(s: &[u8]) -> Result<Figures, Refusal>
     ensures { result ≡ figures_of (read_as 1 s.now) }
 {
-    let c = record::check(s, 1);
-    if c.refusal.number != 0 {
-        let refusal = c.refusal;
-        return Figures {
-            refusal,
-            conserving: false,
-            rank: 0,
-            modes: 0,
-        };
-    }
-    let n = c.terms;
-    survey_terms(s, n)
+    let c = record::check(s, 1)?;
+    Ok(survey_terms(s, c.terms))
 }
 
 // Has every term as many creations as annihilations?
-pub fn conserves_particle_number(s: &[u8]) -> Tested
+pub fn conserves_particle_number(s: &[u8]) -> Result<bool, Refusal>
     ensures { result ≡ conserves_of (read_as 1 s.now) }
 {
-    let f = survey(s);
-    let refusal = f.refusal;
-    Tested {
-        refusal,
-        holds: f.conserving,
-    }
+    let figures = survey(s)?;
+    Ok(figures.conserving)
 }
 
 // The largest rank of the terms, 0 for no terms.
-pub fn max_n_body(s: &[u8]) -> Measured
+pub fn max_n_body(s: &[u8]) -> Result<u64, Refusal>
     ensures { result ≡ max_n_body_of (read_as 1 s.now) }
 {
-    let f = survey(s);
-    let refusal = f.refusal;
-    Measured {
-        refusal,
-        value: f.rank,
-    }
+    let figures = survey(s)?;
+    Ok(figures.rank)
 }
 
 // The union of all words.
-pub fn active_modes(s: &[u8]) -> Measured
+pub fn active_modes(s: &[u8]) -> Result<u64, Refusal>
     ensures { result ≡ active_modes_of (read_as 1 s.now) }
 {
-    let f = survey(s);
-    let refusal = f.refusal;
-    Measured {
-        refusal,
-        value: f.modes,
-    }
+    let figures = survey(s)?;
+    Ok(figures.modes)
 }

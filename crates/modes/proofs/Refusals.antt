@@ -79,6 +79,18 @@ module _ {A : Type 0} (x : A) where
   refused_by (Ok t) e p = cc
   refused_by (Err f) e p = cc
 
+-- a call that is refused by the same, or answers something of what the other answers
+module _ {A B : Type 0} (f : A → B) (x : A) where
+  pub refused_alike : (r : Verdict) (e : Refusal) → Err e ≡ answered r x → Err e ≡ answered r (f x)
+  unfolding unless
+  refused_alike (Ok t) e p = cc
+  refused_alike (Err g) e p = cc
+
+  pub answered_alike : (r : Verdict) (y : A) → Ok y ≡ answered r x → Ok (f y) ≡ answered r (f x)
+  unfolding unless
+  answered_alike (Ok t) y p = cc
+  answered_alike (Err e) y p = cc
+
 -- what a `?` hands on is what the call was refused with
 pub handed_on : {A : Type 0} (r : Result A Refusal) (e : Refusal) → IsErr r → IsErrAnd r (λ f. f ≡ e) → r ≡ Err e
 handed_on (Ok x) e h k = absurd k

@@ -1,14 +1,15 @@
 -- `figures::survey` meets its contract.
 use mathlib.Core.Path.{◌∙◌}
+use Rattle.modes.proofs.Refusals.{handed_on}
 use Rattle.record.proofs.Accepted.{accepted}
 use Rattle.figures.proofs.Surveys.{survey_refused, survey_accepted}
 use Rattle.figures.proofs.survey.Goals as goal
 
-pub returns-then-c-ne0 : goal.returns-then-c-ne0
-returns-then-c-ne0 c = survey_refused _ _ c.check-c.ensures c.if-c-ne0.true
+pub returns-in_err-c : goal.returns-in_err-c
+returns-in_err-c c = handed_on _ _ c.from_residual.ensures.0 c.from_residual.ensures.1 ∙ survey_refused _ _ c.in_err-c.ensures
 
 pub survey_terms-requires : goal.survey_terms-requires
-survey_terms-requires c = (accepted 1 _ _ c.check-c.ensures c.if-c-ne0.false).held.size
+survey_terms-requires c = (accepted 1 _ _ c.in_ok-c.ensures).held.size
 
 pub returns : goal.returns
-returns c = c.survey_terms.ensures ∙ survey_accepted _ _ (accepted 1 _ _ c.check-c.ensures c.if-c-ne0.false)
+returns c = survey_accepted _ _ _ (accepted 1 _ _ c.in_ok-c.ensures) c.survey_terms.ensures
