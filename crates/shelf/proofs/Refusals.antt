@@ -2,7 +2,7 @@
 use mathlib.Core.Path.{◌≡◌, refl, sym, ap, ◌∙◌}
 use mathlib.Core.Bool.{Bool, true, false, ◌&&◌, not}
 use mathlib.Core.List.{List}
-use Prim.Native.Nat.{ℕ, ◌≤◌, ◌<◌}
+use Prim.Native.Nat.{ℕ, ◌+◌, ◌≤◌, ◌<◌}
 use native.Mathlib.Omega.{arith}
 use lib.Dec.{leb, ltb}
 use lib.ListN.{length}
@@ -14,7 +14,8 @@ use Rattle.modes.proofs.Bools.{and_l, and_r}
 use Rattle.modes.proofs.Refusals.{or_first, or_second, neither, needed}
 use Rattle.record.specs.Refusals.{refusal_of}
 use Rattle.record.proofs.Accepted.{accepted_laid}
-use Rattle.slots.specs.Half.{length_of, is_free, is_whole, free_slot, gap_for}
+use Rattle.slots.specs.Half.{place_of, length_of, is_free, is_whole, free_slot, gap_for}
+use Rattle.slots.proofs.Wholes.{inside_half}
 use Rattle.shelf.specs.Requests.{Request, Put, Get, Drop, no_such_party, damaged_half, no_free_slot, no_gap, no_such_slot, put_refusal, slot_refusal, get_refusal}
 use Rattle.shelf.specs.Steps.{shelf_refusal}
 use Rattle.shelf.specs.Placing.{Placeable}
@@ -77,6 +78,14 @@ module _ (h : List ℕ) (i : ℕ) where
         slot = ltb-true i 16 (and_l (ltb i 16) _ held);
         used = not-true _ (and_r (ltb i 16) _ held);
       }
+
+  -- as a call tells it
+  pub slot_told : (r : Refusal) → r ≡ slot_refusal h i → r.number ≡ 0 → Used
+  slot_told r e z = slot_used (none_told r (slot_refusal h i) e z)
+
+  -- what its entry names lies within the half
+  pub used_inside : Used → place_of h i + length_of h i ≤ 32768
+  used_inside u = inside_half h u.whole i u.slot
 
 -- ---- 11 of a get
 

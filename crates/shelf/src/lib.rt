@@ -217,7 +217,7 @@ pub fn clear(shelf: &mut [u8]) -> Shelved
     }
 }
 
-// The record `a` into the party's half.
+// The record `a` into the party's half. The shelf is split, since nothing tells how a part `[start..end]` comes back that was lent as an array.
 pub fn put(shelf: &mut [u8], party: u64, a: &[u8]) -> Shelved
     ensures { Leaves (step (By party (Put a.now)) shelf.old) result [] shelf.new }
 {

@@ -1,8 +1,7 @@
 -- `shelf::drop_in` meets its contract: 19, 22, or record and entry wiped.
 use mathlib.Core.Path.{refl}
 use native.Mathlib.Omega.{arith}
-use Rattle.slots.proofs.Wholes.{inside_half}
-use Rattle.shelf.proofs.Refusals.{none_told, slot_used}
+use Rattle.shelf.proofs.Refusals.{none_told, slot_told, used_inside}
 use Rattle.shelf.proofs.Answering.{half_refuses, drop_leaves}
 use Rattle.shelf.proofs.drop_in.Goals as goal
 
@@ -12,17 +11,16 @@ returns-then-r-ne0 c =
 
 pub place_of-place-requires : goal.place_of-place-requires
 place_of-place-requires c =
-    (slot_used _ _ (none_told _ _ c.slot_refusal-r.ensures c.if-r-ne0.false)).slot
+    (slot_told _ _ _ c.slot_refusal-r.ensures c.if-r-ne0.false).slot
 
 pub length_of-len-requires : goal.length_of-len-requires
 length_of-len-requires c =
-    (slot_used _ _ (none_told _ _ c.slot_refusal-r.ensures c.if-r-ne0.false)).slot
+    (slot_told _ _ _ c.slot_refusal-r.ensures c.if-r-ne0.false).slot
 
 pub release-requires : goal.release-requires
 release-requires c =
-    let found = slot_used _ _ (none_told _ _ c.slot_refusal-r.ensures c.if-r-ne0.false) in
-    let inside = inside_half _ found.whole _ found.slot in
-    (found.slot, omega (arith, inside))
+    let found = slot_told _ _ _ c.slot_refusal-r.ensures c.if-r-ne0.false in
+    (found.slot, omega (arith, used_inside _ _ found))
 
 pub returns : goal.returns
 returns c =

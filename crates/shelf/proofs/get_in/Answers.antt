@@ -1,7 +1,6 @@
 -- `shelf::get_in` meets its contract: 19, 22, 11, or the copy and zeros past it.
 use Rattle.shelf.proofs.Answering.{half_refuses, get_leaves}
-use Rattle.shelf.proofs.Refusals.{none_told, slot_used, get_slot, get_short, get_fits}
-use Rattle.slots.proofs.Wholes.{inside_half}
+use Rattle.shelf.proofs.Refusals.{none_told, slot_told, used_inside, get_slot, get_short, get_fits}
 use native.Mathlib.Omega.{arith}
 use Rattle.shelf.proofs.get_in.Goals as goal
 
@@ -12,11 +11,11 @@ returns-then-r-ne0 c =
 
 pub place_of-place-requires : goal.place_of-place-requires
 place_of-place-requires c =
-    (slot_used _ _ (none_told _ _ c.slot_refusal-r.ensures c.if-r-ne0.false)).slot
+    (slot_told _ _ _ c.slot_refusal-r.ensures c.if-r-ne0.false).slot
 
 pub length_of-len-requires : goal.length_of-len-requires
 length_of-len-requires c =
-    (slot_used _ _ (none_told _ _ c.slot_refusal-r.ensures c.if-r-ne0.false)).slot
+    (slot_told _ _ _ c.slot_refusal-r.ensures c.if-r-ne0.false).slot
 
 pub returns-then-out-len : goal.returns-then-out-len
 returns-then-out-len c =
@@ -26,14 +25,15 @@ returns-then-out-len c =
 
 pub slice_bounds-copy-end : goal.slice_bounds-copy-end
 slice_bounds-copy-end c =
-    let found = slot_used _ _ (none_told _ _ c.slot_refusal-r.ensures c.if-r-ne0.false) in
-    rw (c.place_of-place.ensures.0, c.length_of-len.ensures.0) (inside_half _ found.whole _ found.slot)
+    let found = slot_told _ _ _ c.slot_refusal-r.ensures c.if-r-ne0.false in
+    rw (c.place_of-place.ensures.0, c.length_of-len.ensures.0) (used_inside _ _ found)
 
 pub returns : goal.returns
 returns c =
     let none_yet = none_told _ _ c.slot_refusal-r.ensures c.if-r-ne0.false in
-    let found = slot_used _ _ none_yet in
+    let found = slot_told _ _ _ c.slot_refusal-r.ensures c.if-r-ne0.false in
     let place = c.place_of-place.ensures.0 in
     let long = c.length_of-len.ensures.0 in
     let told = get_fits _ _ _ none_yet (rw long at c.if-out-len.false) in
-    get_leaves _ _ _ _ _ _ told (rw (place, long, c.told-half) (inside_half _ found.whole _ found.slot)) place long c.if-out-len.false c.copy.ensures _ c.wipe_from.ensures
+    get_leaves _ _ _ _ _ _ told (rw (place, long, c.told-half) (used_inside _ _ found)) place long c.if-out-len.false
+    c.copy.ensures _ c.wipe_from.ensures
