@@ -1,5 +1,5 @@
 -- What is seen of the terms, from one to the next.
-use Rattle.std.proofs.Common.{◌≡◌, ℕ, suc, ◌+◌, ◌%◌, ◌^◌, ◌<◌, ◌≤◌, Bool, true, false, not, ◌&&◌, None, eqb, leb, List, ◌∷◌, drop, nat_abs, sym, refl, ap, ◌∙◌, true≢false, mod-eq_of_lt, add-one, arith, lt-ltb, ne_eqb, le-leb, leb-true}
+use Rattle.std.proofs.Common.{◌≡◌, ℕ, suc, ◌+◌, ◌%◌, ◌^◌, ◌<◌, ◌≤◌, Bool, true, false, not, ◌&&◌, None, eqb, leb, List, ◌∷◌, drop, nat_abs, sym, refl, ◌∙◌, true≢false, mod-eq_of_lt, add-one, arith, lt-ltb, ne_eqb, le-leb, leb-true}
 use lib.Bits.{bit_or, or_lt, or_add_and, and_le_l, and_le_r}
 use borrow.Author.Tests.{eqb-false, not-true}
 use Rattle.modes.specs.declared.Term.{Term}

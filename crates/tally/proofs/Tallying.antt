@@ -1,5 +1,5 @@
 -- The terms and the weights of the ranks, counted while the terms are looked at.
-use Rattle.std.proofs.Common.{◌≡◌, ℕ, ◌+◌, ◌/◌, ◌%◌, ◌^◌, ◌<◌, ◌≤◌, true, false, List, [], length, get_or, drop, set, nat_abs, sym, refl, ap, ◌∙◌, div-add-mod', arith, length-set}
+use Rattle.std.proofs.Common.{◌≡◌, ℕ, ◌+◌, ◌/◌, ◌%◌, ◌^◌, ◌<◌, ◌≤◌, true, false, List, [], length, get_or, drop, set, nat_abs, sym, refl, ◌∙◌, div-add-mod', arith, length-set}
 use Rattle.modes.specs.declared.Term.{Term}
 use Rattle.modes.specs.declared.Refusal.{Refusal}
 use Rattle.std.specs.Prelude.{Result, Ok, Err}
