@@ -96,10 +96,8 @@ pub fn read_number(s: &[u8]) -> Number
         good: starts_well(s),
         value: 0,
     };
-    let mut i = 0;
-    while i < s.len() {
-        n = read_byte(n, s[i]);
-        i += 1;
+    for b in s {
+        n = read_byte(n, *b);
     }
     n
 }

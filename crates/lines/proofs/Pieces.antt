@@ -89,8 +89,8 @@ module _ (b : ℕ) (l : List ℕ) (at end : ℕ) (g : Looking b l at end) where
       let first : length (front b (drop end l)) ≡ 0 = ap (λ (k : List ℕ). length (front b k)) (drop_next l end h) ∙ rw (eq-eqb (get_or l end 0) b e) in
       (omega (arith, first, g.far), g.inside)
 
-  pub looking_ends : length l ≤ end → (end ≡ at + length (front b (drop at l))) × (end ≤ length l)
+  pub looking_ends : length l ≤ end → (length l ≡ at + length (front b (drop at l))) × (length l ≤ length l)
   unfolding front
   looking_ends h =
       let none : length (front b (drop end l)) ≡ 0 = ap (λ (k : List ℕ). length (front b k)) (drop_of_length-le l h) in
-      (omega (arith, none, g.far), g.inside)
+      (omega (arith, none, g.far, g.inside), omega arith)

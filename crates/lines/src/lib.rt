@@ -44,14 +44,12 @@ pub fn piece_end(s: &[u8], at: usize, mark: u8) -> usize
     requires { at ≤ length s.now }
     ensures { (result ≡ at + length (front mark (drop at s.now))) × (result ≤ length s.now) }
 {
-    let mut end = at;
-    while end < s.len() {
+    for end in at..s.len() {
         if s[end] == mark {
             return end;
         }
-        end += 1;
     }
-    end
+    s.len()
 }
 
 fn both(a: bool, b: bool) -> bool

@@ -2,16 +2,16 @@
 use Rattle.decimals.proofs.Numbers.{reading_starts, reading_goes, reading_ends}
 use Rattle.decimals.proofs.read_number.Goals as goal
 
-pub loop-i-init : goal.loop-i-init
-loop-i-init c = reading_starts _ _ c.starts_well.ensures
+pub loop-b-init : goal.loop-b-init
+loop-b-init c = reading_starts _ _ c.starts_well.ensures
 
 pub read_byte-n-requires : goal.read_byte-n-requires
-read_byte-n-requires c = c.loop-i.invariant.small
+read_byte-n-requires c = c.loop-b.invariant.small
 
-pub loop-i-preserved : goal.loop-i-preserved
-loop-i-preserved c =
+pub loop-b-preserved : goal.loop-b-preserved
+loop-b-preserved c =
     let byte = c.read_byte-n in
-    reading_goes _ _ _ c.loop-i.invariant c.loop-i-test.true _ byte.ensures.0 byte.ensures.1 byte.ensures.2
+    reading_goes _ _ _ c.loop-b.invariant c.loop-b-test.true _ byte.ensures.0 byte.ensures.1 byte.ensures.2
 
 pub returns : goal.returns
-returns c = reading_ends _ _ _ c.loop-i.invariant c.loop-i-test.false
+returns c = reading_ends _ _ _ c.loop-b.invariant c.loop-b-test.false
