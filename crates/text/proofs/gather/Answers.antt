@@ -29,9 +29,8 @@ loop-at-smaller c =
 
 pub loop-at-preserved : goal.loop-at-preserved
 loop-at-preserved c =
-    let rows = c.put_line_rows-used.ensures in
     let piece = c.piece_end-end.ensures in
-    going_on _ _ _ _ _ c.loop-at.invariant c.loop-at-test.true _ piece.0 piece.1 _ _ rows.0 rows.1
+    going_on _ _ _ _ _ c.loop-at.invariant c.loop-at-test.true _ piece.0 piece.1 _ _ c.put_line_rows-used.ensures
 
 pub shape_of-work : goal.shape_of-work
 shape_of-work c = c.loop-at.invariant.len
