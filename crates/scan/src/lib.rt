@@ -34,19 +34,24 @@ impl Scanned {
         };
         Scanned { refusal, sums }
     }
-}
 
-// 16, 2 and 17 of the line at `place`, once it is read.
-fn line_refusal(x: ReadLine, place: u64) -> Refusal
-    ensures { result ≡ or_else (need x.good (refusal 16 0 place)) (or_else (need x.inside (refusal 2 1 place)) (need (leb x.ladders 12) (refusal 17 0 place))) }
-{
-    if !x.good {
-        return Refusal {
+    // 16, of a line that is none.
+    fn broken(place: u64) -> Scanned
+        ensures { result ≡ refused_text (refusal 16 0 place) }
+    {
+        Scanned::refused(Refusal {
             number: 16,
             operand: 0,
             place,
-        };
+        })
     }
+}
+
+// 2 and 17 of the line at `place`, once it is read.
+#[tactic(auto, unfolding(modes::specs::Refusals::or_else))]
+fn line_refusal(x: ReadLine, place: u64) -> Refusal
+    ensures { result ≡ or_else (need x.inside (refusal 2 1 place)) (need (leb x.ladders 12) (refusal 17 0 place)) }
+{
     if !x.inside {
         return Refusal {
             number: 2,
@@ -98,17 +103,16 @@ pub fn scan(m: u64, text: &[u8]) -> Scanned
     };
     let mut at = 0;
     let mut place = 0;
+    // a `while`, for each step ends where `piece_end` finds the line's end
     while at < text.len() {
         let end = lines::piece_end(text, at, b'\n');
         if end == text.len() {
             // the last line feed is missing
-            return Scanned::refused(Refusal {
-                number: 16,
-                operand: 0,
-                place,
-            });
+            return Scanned::broken(place);
         }
-        let x = lines::read_line(&text[at..end], m);
+        let Some(x) = lines::read_line(&text[at..end], m) else {
+            return Scanned::broken(place);
+        };
         let refusal = line_refusal(x, place);
         if refusal.number != 0 {
             return Scanned::refused(refusal);
