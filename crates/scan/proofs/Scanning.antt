@@ -1,5 +1,5 @@
 -- The walk over the lines of a text: what one line adds, what holds between two lines, and what each way out shows.
-use Rattle.std.specs.Prelude.{Some, None}
+use Rattle.std.specs.Prelude.{Some, None, Result, Ok, Err}
 use Rattle.std.proofs.lemmas.Option.{cond_some}
 use Rattle.decimals.proofs.Numbers.{cond_none}
 use mathlib.Core.Path.{◌≡◌, refl, sym, ap, ◌∙◌}
@@ -16,7 +16,8 @@ use lib.ListN.{length, drop}
 use lib.Pow.{pow_mono}
 use borrow.Author.Tests.{leb-true}
 use Rattle.modes.specs.declared.Refusal.{Refusal}
-use Rattle.modes.specs.Answers.{refusal, none}
+use Rattle.modes.specs.declared.Reason.TheVariants.{WordOutside, BadLine, TooManyLadders}
+use Rattle.modes.specs.Answers.{Verdict, refusal, none}
 use Rattle.modes.specs.Refusals.{need, or_else}
 use Rattle.modes.specs.Sums.{sum_by, amount_of}
 use Rattle.modes.proofs.Digits.{lt_or_ge}
@@ -28,22 +29,21 @@ use Rattle.lines.specs.Reading.{front, line_read}
 use Rattle.lines.specs.declared.ReadLine.{ReadLine}
 use Rattle.lines.proofs.Texts.{pieces_from, lines_from, line_at, last_refused, next_line, next_refusal, no_line, no_refusal}
 use Rattle.scan.specs.Sums.{spread, burden}
-use Rattle.scan.specs.Scanned.{refused_text, summed_text, scanned_of}
+use Rattle.scan.specs.Scanned.{summed_text, scanned_of}
 use Rattle.scan.specs.declared.Sums.{Sums}
-use Rattle.scan.specs.declared.Scanned.{Scanned}
 
 -- ---- one line
 
 -- 2 and 17 of a line read, in this order
-abbrev pub judged : ReadLine → ℕ → Refusal
-judged x i = or_else (need x.inside (refusal 2 1 i)) (need (leb x.ladders 12) (refusal 17 0 i))
+abbrev pub judged : ReadLine → ℕ → Verdict
+judged x i = or_else (need x.inside (refusal WordOutside 1 i)) (need (leb x.ladders 12) (refusal TooManyLadders 0 i))
 
 module _ (x : ReadLine) (i : ℕ) where
   -- a line that is not refused has at most 12 ladders
-  pub few : (r : Refusal) → r ≡ judged x i → r.number ≡ 0 → x.ladders ≤ 12
-  few r e z =
-      let last = (neither (need x.inside (refusal 2 1 i)) _ (ap (λ (f : Refusal). f.number) (sym e) ∙ z)).1 in
-      leb-true x.ladders 12 (needed (leb x.ladders 12) (refusal 17 0 i) (λ e. absurd (omega arith)) last)
+  pub few : judged x i ≡ none → x.ladders ≤ 12
+  few e =
+      let last = (neither (need x.inside (refusal WordOutside 1 i)) _ e).1 in
+      leb-true x.ladders 12 (needed (leb x.ladders 12) (refusal TooManyLadders 0 i) last)
 
 -- a product
 module _ (c s : ℕ) (h : 0 < s) where
@@ -80,7 +80,7 @@ pub record Going (m : ℕ) (text : List ℕ) (s : Sums) (at i : ℕ) : Type 0 wh
 module _ (m : ℕ) (text : List ℕ) (s : Sums) (at i : ℕ) (g : Going m text s at i) where
   module _ (end : ℕ) (e : end ≡ at + length (front line_feed (drop at text))) where
     -- the last line feed is missing
-    pub last_open : at < length text → end ≡ length text → text_refusal m text ≡ refusal 16 0 i
+    pub last_open : at < length text → end ≡ length text → text_refusal m text ≡ Err (refusal BadLine 0 i)
     last_open h k = g.rest ∙ last_refused text at end e h k m i
 
     module _ (h : end < length text) where
@@ -91,11 +91,11 @@ module _ (m : ℕ) (text : List ℕ) (s : Sums) (at i : ℕ) (g : Going m text s
       next = g.rest ∙ next_refusal text at end e h m i
 
       -- no line
-      pub line_broken : None ≡ line_read m line → text_refusal m text ≡ refusal 16 0 i
+      pub line_broken : None ≡ line_read m line → text_refusal m text ≡ Err (refusal BadLine 0 i)
       unfolding line_refusal or_else
       line_broken n = next ∙ rw (cond_none (is_line line) _ n)
 
-      module _ (x : ReadLine) (ex : Some x ≡ line_read m line) (r : Refusal) (er : r ≡ judged x i) where
+      module _ (x : ReadLine) (ex : Some x ≡ line_read m line) (r : Verdict) (er : r ≡ judged x i) where
         good : is_line line ≡ true
         good = (cond_some (is_line line) _ _ (sym ex)).0
 
@@ -111,12 +111,12 @@ module _ (m : ℕ) (text : List ℕ) (s : Sums) (at i : ℕ) (g : Going m text s
         line_judged = rw good (or_second none _ refl ∙ ap (λ (y : ReadLine). judged y i) read ∙ sym er)
 
         turn : text_refusal m text ≡ or_else r (lines_refusal m (suc i) (pieces_from text (end + 1)))
-        turn = next ∙ ap (λ (f : Refusal). or_else f (lines_refusal m (suc i) (pieces_from text (end + 1)))) line_judged
+        turn = next ∙ ap (λ (f : Verdict). or_else f (lines_refusal m (suc i) (pieces_from text (end + 1)))) line_judged
 
-        pub line_refused : (r.number ≡ 0 → ⊥) → text_refusal m text ≡ r
+        pub line_refused : (r ≡ none → ⊥) → text_refusal m text ≡ r
         line_refused n = turn ∙ or_first r _ n
 
-        pub goes : r.number ≡ 0 → (t : Sums) → t.burden ≡ up_to (s.burden + x.magnitude * 2 ^ x.ladders) → t.spread ≡ up_to (s.spread + 2 ^ x.ladders)
+        pub goes : r ≡ none → (t : Sums) → t.burden ≡ up_to (s.burden + x.magnitude * 2 ^ x.ladders) → t.spread ≡ up_to (s.spread + 2 ^ x.ladders)
             → Going m text t (end + 1) (i + 1)
         unfolding sum_by
         goes z t eb es =
@@ -139,7 +139,7 @@ module _ (m : ℕ) (text : List ℕ) (s : Sums) (at i : ℕ) (g : Going m text s
             }
 
   -- all lines looked at
-  pub scanned : length text ≤ at → ◌≡◌ {A = Scanned} (record { refusal = none; sums = s }) (scanned_of m text)
+  pub scanned : length text ≤ at → ◌≡◌ {A = Result Sums Refusal} (Ok s) (scanned_of m text)
   unfolding sum_by
   scanned h =
       let fine : text_refusal m text ≡ none = g.rest ∙ no_refusal text at h m i in
@@ -148,7 +148,7 @@ module _ (m : ℕ) (text : List ℕ) (s : Sums) (at i : ℕ) (g : Going m text s
       let all_spreads = g.spreads ∙ ap (λ (xs : List Line). up_to (s.spread + amount_of spread xs)) none_left in
       let eb : s.burden ≡ up_to (amount_of burden (lines_of text)) = omega (arith, all_burdens, g.burden_low) in
       let es : s.spread ≡ up_to (amount_of spread (lines_of text)) = omega (arith, all_spreads, g.spread_low) in
-      (λ j. record { refusal = none; sums = record { burden = eb j; spread = es j } }) ∙ sym (rw fine (unless_not none refused_text (summed_text text) refl))
+      (λ j. Ok (record { burden = eb j; spread = es j })) ∙ sym (unless_not _ Err (Ok (summed_text text)) fine)
 
-pub text_refused : (m : ℕ) (text : List ℕ) (r : Refusal) → text_refusal m text ≡ r → (r.number ≡ 0 → ⊥) → refused_text r ≡ scanned_of m text
-text_refused m text r e h = sym (rw e (unless_so r refused_text (summed_text text) h))
+pub text_refused : (m : ℕ) (text : List ℕ) (r : Refusal) → text_refusal m text ≡ Err r → Err r ≡ scanned_of m text
+text_refused m text r e = sym (unless_so (text_refusal m text) Err _ r e)
