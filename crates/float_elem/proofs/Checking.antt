@@ -1,4 +1,4 @@
--- What the checks before the sum tell: the lengths of listed lists, and that a term refused by no number is refused by nothing.
+-- What the check of the lists before the sum tells: their lengths.
 use mathlib.Core.Path.{◌≡◌, sym, ◌∙◌}
 use mathlib.Core.Bool.{Bool, true}
 use mathlib.Core.List.{List, [], ◌∷◌}
