@@ -77,7 +77,8 @@ module _ (m : ℕ) (cre ann : List ℕ) (cs : List Float) (bra ket : ℕ) where
   sums_twice : sum_refusal bra ket cre ann (cs ∷ cs ∷ []) ≡ sum_refusal bra ket cre ann (cs ∷ [])
   unfolding sum_refusal
   sums_twice =
-      let same : (i : ℕ) → sum_at bra ket cre ann (cs ∷ cs ∷ []) i ≡ sum_at bra ket cre ann (cs ∷ []) i = λ i. rw (finite_twice (sum_to bra ket cre ann cs (suc i))) in
+      let same : (i : ℕ) → sum_at bra ket cre ann (cs ∷ cs ∷ []) i ≡ sum_at bra ket cre ann (cs ∷ []) i =
+      λ i. rw (finite_twice (sum_to bra ket cre ann cs (suc i))) in
       λ j. first_refusal (λ i. same i j) (length cre)
 
   pub one_of_two : (t : Told) → t ≡ float_element m cre ann (cs ∷ cs ∷ []) bra ket → one_part t ≡ float_element m cre ann (cs ∷ []) bra ket

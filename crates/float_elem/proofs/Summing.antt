@@ -43,7 +43,8 @@ module _ (bra ket : ℕ) (cre ann : List ℕ) (re im : List Float) where
   part_on cs i x z e h = h ∙ ap (joined bra ket (get_or cre i 0) (get_or ann i 0) (get_or cs i nan)) e
 
   module _ (x y : Float) (i : ℕ) (so : Running bra ket cre ann re im x y i) (z w : Float)
-      (ez : z ≡ joined bra ket (get_or cre i 0) (get_or ann i 0) (get_or re i nan) x) (ew : w ≡ joined bra ket (get_or cre i 0) (get_or ann i 0) (get_or im i nan) y) where
+      (ez : z ≡ joined bra ket (get_or cre i 0) (get_or ann i 0) (get_or re i nan) x)
+      (ew : w ≡ joined bra ket (get_or cre i 0) (get_or ann i 0) (get_or im i nan) y) where
     at : (b : Bool) → all_finite (z ∷ w ∷ []) ≡ b → sum_at bra ket cre ann (re ∷ im ∷ []) i ≡ need b (refusal NotFinite 1 i)
     at b e = rw (← part_on re i x z so.res ez, ← part_on im i y w so.ims ew, e)
 
@@ -64,7 +65,8 @@ module _ (bra ket : ℕ) (cre ann : List ℕ) (re im : List Float) where
   pub sums_stay : (x y : Float) (i : ℕ) → Running bra ket cre ann re im x y i → get_or cre i 0 < 2 ^ 64 → get_or ann i 0 < 2 ^ 64
       → (bit_xor (get_or cre i 0) (get_or ann i 0) ≡ bit_xor bra ket → ⊥) → (j : ℕ) → j ≡ i + 1 → Running bra ket cre ann re im x y j
   sums_stay x y i so hc ha n =
-      let stays : (c z : Float) → z ≡ joined bra ket (get_or cre i 0) (get_or ann i 0) c z = λ c z. joined_elsewhere bra ket (get_or cre i 0) (get_or ann i 0) c z hc ha n in
+      let stays : (c z : Float) → z ≡ joined bra ket (get_or cre i 0) (get_or ann i 0) c z =
+      λ c z. joined_elsewhere bra ket (get_or cre i 0) (get_or ann i 0) c z hc ha n in
       sums_go x y i so x y (stays (get_or re i nan) x) (stays (get_or im i nan) y) so.finite_now
 
   pub sums_end : (x y : Float) (i : ℕ) → Running bra ket cre ann re im x y i → i ≡ length cre → Ok (x ∷ y ∷ []) ≡ summed bra ket cre ann (re ∷ im ∷ [])

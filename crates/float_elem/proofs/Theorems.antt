@@ -38,7 +38,8 @@ module _ (bra ket : ℕ) (cre ann : List ℕ) where
   start_finite [] = refl
   start_finite (cs ∷ parts) = start_finite parts
 
-  sums_finite : (parts : List (List Float)) (n : ℕ) → first_refusal (sum_at bra ket cre ann parts) n ≡ none → all_finite (sums_to bra ket cre ann parts n) ≡ true
+  sums_finite : (parts : List (List Float)) (n : ℕ) → first_refusal (sum_at bra ket cre ann parts) n ≡ none
+      → all_finite (sums_to bra ket cre ann parts n) ≡ true
   sums_finite parts zero z = start_finite parts
   sums_finite parts (suc n) z = needed _ (refusal NotFinite 1 n) (first_none (sum_at bra ket cre ann parts) (suc n) n z (omega arith))
 
@@ -102,7 +103,8 @@ module _ (bra ket : ℕ) (cre ann : List ℕ) (n i : ℕ) (s : Bool) (only : Onl
 
     finite_so_far : finite (get_or cs i nan) ≡ true → (k : ℕ) → k ≤ n → finite (sum_to bra ket cre ann cs k) ≡ true
     finite_so_far f k h =
-        ⊎_elim (λ l. rw (from k l h) (exactly_finite (signed_float s (get_or cs i nan)) (signed_finite s (get_or cs i nan) f))) (λ l. rw (before k l)) (lt_or_ge i k)
+        ⊎_elim (λ l. rw (from k l h) (exactly_finite (signed_float s (get_or cs i nan)) (signed_finite s (get_or cs i nan) f)))
+        (λ l. rw (before k l)) (lt_or_ge i k)
 
   -- all parts
   all_so_far : (parts : List (List Float)) → Every Doubles parts → all_finite (map (λ cs. get_or cs i nan) parts) ≡ true → (k : ℕ) → k ≤ n
@@ -115,7 +117,8 @@ module _ (bra ket : ℕ) (cre ann : List ℕ) (n i : ℕ) (s : Bool) (only : Onl
       → first_refusal (sum_at bra ket cre ann parts) k ≡ none
   none_stops parts d f zero h = first_starts _
   none_stops parts d f (suc k) h =
-      sym (ap (first_refusal (sum_at bra ket cre ann parts)) (add-one k)) ∙ first_goes _ k (none_stops parts d f k (omega arith)) (rw (all_so_far parts d f (suc k) h))
+      sym (ap (first_refusal (sum_at bra ket cre ann parts)) (add-one k))
+      ∙ first_goes _ k (none_stops parts d f k (omega arith)) (rw (all_so_far parts d f (suc k) h))
 
   all_came : (parts : List (List Float)) → Every Doubles parts → sums_to bra ket cre ann parts n ≡ map came parts
   all_came [] nothing = refl
