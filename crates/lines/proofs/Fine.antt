@@ -4,6 +4,7 @@ use mathlib.Core.Bool.{true}
 use mathlib.Core.List.{List, [], ◌∷◌, ◌++◌}
 use Prim.Native.Nat.{ℕ, suc, ◌≤◌}
 use native.Mathlib.Nat.{lt_of_lt_of_le}
+use native.Mathlib.Omega.{arith}
 use lib.Dec.{leb, ltb}
 use lib.ListN.{length}
 use borrow.Author.Tests.{leb-true, le-leb, ltb-true, lt-ltb}
@@ -74,14 +75,15 @@ lines_wider m k i h (l ∷ l' ∷ ls) z =
 
 -- ---- 16
 
-line_not : (m i : ℕ) (l : List ℕ) → is_line l ≡ true → Never BadLine (line_refusal m i l)
+line_not : (m i : ℕ) (l : List ℕ) → is_line l ≡ true → Never 16 (line_refusal m i l)
 unfolding line_refusal
 line_not m i l h =
-    rw h (never_or (never_none BadLine) (never_or (never_need (all_below m (line_of l).ladders) WordOutside 1 i (λ e. cc))
-    (never_need (leb (length (line_of l).ladders) 12) TooManyLadders 0 i (λ e. cc))))
+    rw h (never_or (never_none 16 (omega arith))
+    (never_or (never_need (all_below m (line_of l).ladders) WordOutside 1 i (omega arith) (λ e. absurd (omega arith)))
+    (never_need (leb (length (line_of l).ladders) 12) TooManyLadders 0 i (omega arith) (λ e. absurd (omega arith)))))
 
-pub unbroken : (m i : ℕ) (ls : List (List ℕ)) → Every (λ l. is_line l ≡ true) ls → Never BadLine (lines_refusal m i (ls ++ ([] ∷ [])))
+pub unbroken : (m i : ℕ) (ls : List (List ℕ)) → Every (λ l. is_line l ≡ true) ls → Never 16 (lines_refusal m i (ls ++ ([] ∷ [])))
 unfolding lines_refusal
-unbroken m i [] none = never_none BadLine
-unbroken m i (l ∷ []) (more h none) = never_or (line_not m i l h) (never_none BadLine)
+unbroken m i [] none = never_none 16 (omega arith)
+unbroken m i (l ∷ []) (more h none) = never_or (line_not m i l h) (never_none 16 (omega arith))
 unbroken m i (l ∷ k ∷ ls) (more h hs) = never_or (line_not m i l h) (unbroken m (suc i) (k ∷ ls) hs)

@@ -43,7 +43,7 @@ gives_as {o} {q} {r} {x} e g = subst (λ (y : Output). Gives y r x) e g
 
 -- ---- a call that is not refused
 
-written_len : (r : Written) (len branches : ℕ) → ◌≡◌ {A = Result Written Refusal} (Ok r) (Ok (wrote len branches)) → r.len ≡ len
+pub written_len : (r : Written) (len branches : ℕ) → ◌≡◌ {A = Result Written Refusal} (Ok r) (Ok (wrote len branches)) → r.len ≡ len
 written_len r len branches e = let is : r ≡ wrote len branches = cc in ap (λ (w : Written). w.len) is
 
 module _ (room branches : ℕ) (earlier later : Verdict) (m : ℕ) (ts : List Term) (r : Written) (after : List ℕ)

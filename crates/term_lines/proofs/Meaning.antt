@@ -4,6 +4,7 @@ use mathlib.Core.Bool.{Bool, true, false, cond}
 use mathlib.Core.List.{List, [], ◌∷◌, ◌++◌}
 use Prim.Native.Nat.{ℕ, zero, suc}
 use lib.IntN.{ℤ}
+use Rattle.modes.specs.Answers.{none}
 use Rattle.modes.specs.declared.Term.{Term}
 use Rattle.modes.specs.Words.{bit}
 use Rattle.modes.specs.Sums.{sum_of}
@@ -57,7 +58,7 @@ text_elements bra ket ts =
     ∙ ap (λ (f : Term → ℤ). sum_of f ts) (fun_ext (λ t. ap (adds bra t.coeff) (ladders_are_term t (went ket false))))
 
 -- THE TEXT TELLS THE RECORD: two accepted records on one number of modes with one text are the same bytes
-pub same_text : (o p : ℕ) (a b : List ℕ) → Small a → Small b → (refusal_of o a).number ≡ 0 → (refusal_of p b).number ≡ 0 → modes_of a ≡ modes_of b
+pub same_text : (o p : ℕ) (a b : List ℕ) → Small a → Small b → refusal_of o a ≡ none → refusal_of p b ≡ none → modes_of a ≡ modes_of b
     → terms_text (terms_of a) ≡ terms_text (terms_of b) → a ≡ b
 same_text o p a b small_a small_b ea eb m e =
     let of_b : Canonical (modes_of a) (terms_of b) = subst (λ (n : ℕ). Canonical n (terms_of b)) (sym m) (accepted_canonical p b eb) in

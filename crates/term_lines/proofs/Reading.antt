@@ -19,6 +19,7 @@ use Rattle.lines.specs.Refusals.{lines_refusal}
 use Rattle.lines.specs.Spelling.{kind_byte, ladder_text, ladders_text}
 use Rattle.lines.proofs.Joined.{Lacks, pieces_after, pieces_before, ended_before}
 use Rattle.lines.proofs.Spelled.{number_lacks, ladder_read_is, ladder_good, plain_read, plain_good, minus_read, minus_good}
+use Rattle.modes.specs.Answers.{number_in}
 use Rattle.lines.proofs.Fine.{unbroken}
 use Rattle.term_lines.specs.Written.{sign_text, modes_text, term_text, terms_text}
 use Rattle.term_lines.specs.Ladders.{modes_ladders, line_of_term}
@@ -137,5 +138,5 @@ every_good [] = none
 every_good (t ∷ ts) = more (line_good (line_of_term t)) (every_good ts)
 
 -- and breaks no grammar: 16 never refuses it
-pub text_unbroken : (m i : ℕ) (ts : List Term) → (lines_refusal m i (pieces line_feed (terms_text ts))).number ≡ 16 → ⊥
+pub text_unbroken : (m i : ℕ) (ts : List Term) → number_in (lines_refusal m i (pieces line_feed (terms_text ts))) ≡ 16 → ⊥
 text_unbroken m i ts = rw (text_pieces ts) (unbroken m i (map term_body ts) (every_good ts)).not

@@ -11,7 +11,9 @@ use lib.IntN.{pos, nat_abs}
 use lib.ListN.{length}
 use Rattle.modes.specs.declared.Refusal.{Refusal}
 use Rattle.modes.specs.declared.Term.{Term}
-use Rattle.modes.specs.Answers.{refusal, none, product_too_heavy}
+use Rattle.std.specs.Prelude.{Err}
+use Rattle.modes.specs.declared.Reason.TheVariants.{Malformed}
+use Rattle.modes.specs.Answers.{Verdict, refusal, none, product_too_heavy, rows_do_not_fit}
 use Rattle.modes.specs.Refusals.{need}
 use Rattle.modes.specs.Sums.{sum_by, amount_of}
 use Rattle.modes.proofs.Refusals.{neither, or_second}
@@ -54,27 +56,23 @@ key_below cre ann (t ∷ ts) = omega (arith, coeff_in_below cre ann t, key_below
 pub record Early (m work : ℕ) (text : List ℕ) : Type 0 where
   pub some : 1 ≤ m
   pub most : m ≤ 64
-  pub fine : (text_refusal m text).number ≡ 0
+  pub fine : text_refusal m text ≡ none
   pub light : amount_of burden (lines_of text) ≤ 2 ^ 60
   pub fits : 48 * amount_of spread (lines_of text) ≤ work
 
--- r is what was found of the text
-module _ (m work : ℕ) (text : List ℕ) (r : Refusal) (e : r ≡ early_refusal m work text) (ok : r.number ≡ 0) where
-  z : (early_refusal m work text).number ≡ 0
-  z = ap (λ (x : Refusal). x.number) (sym e) ∙ ok
-
+module _ (m work : ℕ) (text : List ℕ) (z : early_refusal m work text ≡ none) where
   pub early : Early m work text
   early =
       let one = neither (bad_modes m) _ z in
       let two = neither (text_refusal m text) _ one.1 in
       let three = neither (need (leb (amount_of burden (lines_of text)) (2 ^ 60)) product_too_heavy) _ two.1 in
-      let range = modes_range m (bad_modes m) refl one.0 in
+      let range = modes_range m one.0 in
       record {
         some = range.0;
         most = range.1;
         fine = two.0;
-        light = bound_kept _ (2 ^ 60) 8 three.0 (λ e. absurd (omega arith));
-        fits = bound_kept _ work 7 three.1 (λ e. absurd (omega arith));
+        light = bound_kept _ (2 ^ 60) product_too_heavy three.0;
+        fits = bound_kept _ work rows_do_not_fit three.1;
       }
 
   pub readable : Readable text work
@@ -100,21 +98,18 @@ module _ (m work : ℕ) (text : List ℕ) (r : Refusal) (e : r ≡ early_refusal
         let joined : rows_at k 0 n ≡ normal (text_rows text) = c.rows ∙ ap normal stands in
         let late = result_refusal room (length (normal (text_rows text))) (weight (normal (text_rows text))) in
         ap (result_of room 0 none m) joined
-        ∙ ap (λ (r : Refusal). record_output room 0 r m (normal (text_rows text))) (or_second none late refl ∙ sym (or_second (early_refusal m work text) late z))
+        ∙ ap (λ (r : Verdict). record_output room 0 r m (normal (text_rows text))) (or_second none late refl ∙ sym (or_second (early_refusal m work text) late z))
 
-pub early_refused : (m work room : ℕ) (text : List ℕ) (r : Refusal) → r ≡ early_refusal m work text → (r.number ≡ 0 → ⊥)
-    → refused_output room r ≡ import_of m work room text
-early_refused m work room text r e h =
-    rw e (refused_earlier room 0 (early_refusal m work text) _ m (normal (text_rows text)) (λ q. h (ap (λ (x : Refusal). x.number) e ∙ q)))
+pub early_refused : (m work room : ℕ) (text : List ℕ) (r : Refusal) → Err r ≡ early_refusal m work text → refused_output room r ≡ import_of m work room text
+early_refused m work room text r e = refused_earlier room 0 (early_refusal m work text) _ m (normal (text_rows text)) r (sym e)
 
 -- a mode count as far as the ceiling is refused as the count is, and is the count where it is not
 pub modes_capped : (m work room : ℕ) (text : List ℕ) → import_of (up_to m) work room text ≡ import_of m work room text
 modes_capped m work room text = ⊎_elim above below (lt_or_ge (2 ^ 60) m)
   where
-    refused : (k : ℕ) → 64 < k → refused_output room (refusal 1 1 0) ≡ import_of k work room text
+    refused : (k : ℕ) → 64 < k → refused_output room (refusal Malformed 1 0) ≡ import_of k work room text
     refused k h =
-        let first = modes_refused k work text (refusal 1 1 0) (too_many_modes k h) (λ e. absurd (omega arith)) in
-        early_refused k work room text (refusal 1 1 0) first (λ e. absurd (omega arith))
+        early_refused k work room text (refusal Malformed 1 0) (modes_refused k work text (refusal Malformed 1 0) (too_many_modes k h))
 
     above : 2 ^ 60 < m → import_of (up_to m) work room text ≡ import_of m work room text
     above h = sym (refused (up_to m) (omega arith)) ∙ refused m (omega arith)

@@ -8,13 +8,15 @@ use lib.Dec.{leb}
 use lib.ListN.{length, take, drop}
 use lib.Seq.{take_at, drop_at}
 use Rattle.modes.specs.declared.Written.{Written}
-use Rattle.modes.specs.Answers.{none, output_too_short, wrote}
+use Rattle.std.specs.Prelude.{Result, Ok}
+use Rattle.modes.specs.declared.Refusal.{Refusal}
+use Rattle.modes.specs.Answers.{none, output_too_short, wrote, number_in}
 use Rattle.modes.specs.Every.{Every}
 use Rattle.modes.specs.Terms.{creations, annihilations}
 use Rattle.modes.specs.Refusals.{need, or_else}
 use Rattle.modes.proofs.Every.{every_both}
 use Rattle.modes.proofs.Sums.{by_nothing}
-use Rattle.modes.proofs.Refusals.{neither, not_refused}
+use Rattle.modes.proofs.Refusals.{neither, either_way}
 use Rattle.lent.specs.Bytes.{zeros}
 use Rattle.lent.specs.Outputs.{Output, refused_output, filled_output, Gives}
 use Rattle.products.specs.Operators.{element}
@@ -33,27 +35,29 @@ use Rattle.term_lines.proofs.Reading.{text_read, text_unbroken}
 use Rattle.term_lines.proofs.Accepted.{text_accepted}
 use Rattle.term_lines.proofs.Meaning.{text_elements, same_text}
 use Rattle.text.specs.Export.{export_of}
-use Rattle.text.proofs.Exports.{export_fills}
+use Rattle.record.proofs.Outputs.{written_len}
+use Rattle.text.proofs.Exports.{ends_at, export_fills}
 
 -- ---- a call that is not refused
 
-module _ (room : ℕ) (a : List ℕ) (r : Written) (after : List ℕ) (g : Gives (export_of room (read_as 1 a)) r after) (z : r.refusal.number ≡ 0) where
+module _ (room : ℕ) (a : List ℕ) (r : Written) (after : List ℕ) (g : Gives (export_of room (read_as 1 a)) (Ok r) after) where
   abbrev text_of : List ℕ
   text_of = terms_text (terms_of a)
 
-  given : ((or_else (refusal_of 1 a) (need (leb (length text_of) room) output_too_short)).number ≡ 0) × (export_of room (read_as 1 a) ≡ filled_output room 0 text_of)
+  given : (or_else (refusal_of 1 a) (need (leb (length text_of) room) output_too_short) ≡ none) × (export_of room (read_as 1 a) ≡ filled_output room 0 text_of)
   unfolding export_of
   given =
-      not_refused (or_else (refusal_of 1 a) (need (leb (length text_of) room) output_too_short)) (refused_output room) (filled_output room 0 text_of)
-      (λ o. o.answer.refusal) refl (export_of room (read_as 1 a)) refl (ap (λ (w : Written). w.refusal.number) (sym g.answer) ∙ z)
+      let judged = or_else (refusal_of 1 a) (need (leb (length text_of) room) output_too_short) in
+      either_way judged (refused_output room) (filled_output room 0 text_of)
+      (λ o. Ok r ≡ o.answer → (judged ≡ none) × (o ≡ filled_output room 0 text_of)) (λ z e. (z, refl)) (λ f q e. cc) g.answer
 
   bytes_are : after ≡ text_of ++ zeros (room - length text_of)
   bytes_are = g.bytes ∙ ap (λ (o : Output). o.bytes) given.1
 
   length_is : r.len ≡ length text_of
-  length_is = ap (λ (w : Written). w.len) (g.answer ∙ ap (λ (o : Output). o.answer) given.1)
+  length_is = written_len r (length text_of) 0 (g.answer ∙ ap (λ (o : Output). o.answer) given.1)
 
-  pub export_accepted : (refusal_of 1 a).number ≡ 0
+  pub export_accepted : refusal_of 1 a ≡ none
   export_accepted = (neither _ _ given.0).0
 
   -- the bytes of the answer's length are the text of the record's terms, and zeros stand past it
@@ -73,7 +77,7 @@ module _ (room : ℕ) (a : List ℕ) (r : Written) (after : List ℕ) (g : Gives
   pub export_read : lines_of (take r.len after) ≡ map line_of_term (terms_of a)
   export_read = ap lines_of export_text ∙ text_read (terms_of a)
 
-  pub export_unbroken : (m i : ℕ) → (lines_refusal m i (pieces line_feed (take r.len after))).number ≡ 16 → ⊥
+  pub export_unbroken : (m i : ℕ) → number_in (lines_refusal m i (pieces line_feed (take r.len after))) ≡ 16 → ⊥
   export_unbroken m i = rw export_text (text_unbroken m i (terms_of a))
 
   -- where no term has more than 12 ladders, nothing refuses it as a text on the record's modes
@@ -87,24 +91,24 @@ module _ (room : ℕ) (a : List ℕ) (r : Written) (after : List ℕ) (g : Gives
   export_elements bra ket = ap (λ (l : List ℕ). lines_element bra ket (lines_of l)) export_text ∙ text_elements bra ket (terms_of a)
 
 -- THE EXPORT TELLS THE RECORD: of two records on one number of modes, neither of them refused, equal texts are of equal bytes
-pub export_tells : (room place : ℕ) (a b : List ℕ) (r s : Written) (x y : List ℕ) → Gives (export_of room (read_as 1 a)) r x → Gives (export_of place (read_as 1 b)) s y
-    → r.refusal.number ≡ 0 → s.refusal.number ≡ 0 → Small a → Small b → modes_of a ≡ modes_of b → take r.len x ≡ take s.len y → a ≡ b
-export_tells room place a b r s x y g h zr zs small_a small_b m e =
-    same_text 1 1 a b small_a small_b (export_accepted room a r x g zr) (export_accepted place b s y h zs) m
-    (sym (export_text room a r x g zr) ∙ e ∙ export_text place b s y h zs)
+pub export_tells : (room place : ℕ) (a b : List ℕ) (r s : Written) (x y : List ℕ) → Gives (export_of room (read_as 1 a)) (Ok r) x → Gives (export_of place (read_as 1 b)) (Ok s) y
+    → Small a → Small b → modes_of a ≡ modes_of b → take r.len x ≡ take s.len y → a ≡ b
+export_tells room place a b r s x y g h small_a small_b m e =
+    same_text 1 1 a b small_a small_b (export_accepted room a r x g) (export_accepted place b s y h) m
+    (sym (export_text room a r x g) ∙ e ∙ export_text place b s y h)
 
 -- ---- an accepted record
 
-module _ (room : ℕ) (a : List ℕ) (fine : (refusal_of 1 a).number ≡ 0) where
+module _ (room : ℕ) (a : List ℕ) (fine : refusal_of 1 a ≡ none) where
   -- an output of 2^20 bytes is enough for every record
-  pub export_fits : 1048576 ≤ room → (r : Written) (after : List ℕ) → Gives (export_of room (read_as 1 a)) r after → r.refusal ≡ none
+  pub export_fits : 1048576 ≤ room → (r : Result Written Refusal) (after : List ℕ) → Gives (export_of room (read_as 1 a)) r after → r ≡ ends_at (length (terms_text (terms_of a)))
   export_fits h r after g =
       let k = accepted_canonical 1 a fine in
       let long = longest_text (terms_of a) k.few k.light in
-      ap (λ (w : Written). w.refusal) g.answer ∙ ap (λ (o : Output). o.answer.refusal) (sym (export_fills room a fine (omega arith)))
+      g.answer ∙ ap (λ (o : Output). o.answer) (sym (export_fills room a fine (omega arith)))
 
   -- a record without terms gives the empty text, in every output
-  pub export_nothing : terms_of a ≡ [] → (r : Written) (after : List ℕ) → Gives (export_of room (read_as 1 a)) r after → (r ≡ wrote 0 0) × (after ≡ zeros room)
+  pub export_nothing : terms_of a ≡ [] → (r : Result Written Refusal) (after : List ℕ) → Gives (export_of room (read_as 1 a)) r after → (r ≡ Ok (wrote 0 0)) × (after ≡ zeros room)
   export_nothing e r after g =
       let empty : terms_text (terms_of a) ≡ [] = by_nothing ◌++◌ [] term_text e in
       let is : export_of room (read_as 1 a) ≡ filled_output room 0 [] =

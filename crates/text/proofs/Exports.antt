@@ -15,36 +15,40 @@ use Rattle.record.specs.Layout.{terms_in, terms_of}
 use Rattle.record.specs.Operands.{read_as}
 use Rattle.record.specs.Refusals.{refusal_of, checked_of}
 use Rattle.record.specs.declared.Checked.{Checked}
-use Rattle.record.proofs.Accepted.{Accepted, accepted, refused, refusal_told}
+use Rattle.record.proofs.Accepted.{Accepted, accepted, refused}
 use Rattle.record.proofs.Outputs.{gives_as}
 use Rattle.term_lines.specs.Written.{terms_text}
 use Rattle.text.specs.Export.{export_of}
 use Rattle.text.specs.Placing.{PlacedText}
-use Rattle.std.specs.Prelude.{None, Some}
+use Rattle.std.specs.Prelude.{None, Some, Result, Ok, Err}
+use Rattle.modes.specs.declared.Refusal.{Refusal}
+use Rattle.modes.specs.declared.Written.{Written}
 
 -- refused by the check
-pub export_refused : (room : ℕ) (a : List ℕ) (c : Checked) → c ≡ checked_of 1 a → (c.refusal.number ≡ 0 → ⊥)
-    → refused_output room c.refusal ≡ export_of room (read_as 1 a)
+pub export_refused : (room : ℕ) (a : List ℕ) (r : Refusal) → Err r ≡ checked_of 1 a → refused_output room r ≡ export_of room (read_as 1 a)
 unfolding export_of
-export_refused room a c e h = rw (refusal_told 1 a c e) (first_refuses (refusal_of 1 a) _ (refused_output room) _ (refused 1 a c e h))
+export_refused room a r e = first_refuses (refusal_of 1 a) _ (refused_output room) _ r (refused 1 a r e)
 
 -- of an accepted record the length of the text decides
-module _ (room : ℕ) (a : List ℕ) (fine : (refusal_of 1 a).number ≡ 0) where
+module _ (room : ℕ) (a : List ℕ) (fine : refusal_of 1 a ≡ none) where
   abbrev text : List ℕ
   text = terms_text (terms_of a)
 
   pub export_short : room < length text → refused_output room output_too_short ≡ export_of room (read_as 1 a)
   unfolding export_of
-  export_short h = rw (lt-leb (length text) room h) (second_refuses (refusal_of 1 a) output_too_short (refused_output room) _ fine (λ q. absurd (omega arith)))
+  export_short h = rw (lt-leb (length text) room h) (second_refuses (refusal_of 1 a) _ (refused_output room) _ fine output_too_short refl)
 
   pub export_fills : length text ≤ room → filled_output room 0 text ≡ export_of room (read_as 1 a)
   unfolding export_of
   export_fills h = rw (le-leb (length text) room h) (neither_refuses (refusal_of 1 a) none (refused_output room) _ fine refl)
 
+abbrev pub ends_at : ℕ → Result Written Refusal
+ends_at n = Ok (wrote n 0)
+
 -- what the lines' placing in an output tells
-module _ (out a : List ℕ) (c : Checked) (e : c ≡ checked_of 1 a) (z : c.refusal.number ≡ 0) (m : List ℕ) where
+module _ (out a : List ℕ) (c : Checked) (e : Ok c ≡ checked_of 1 a) (m : List ℕ) where
   fine : Accepted 1 a c
-  fine = accepted 1 a c e z
+  fine = accepted 1 a c e
 
   abbrev whole : List ℕ
   whole = terms_text (terms_of a)
@@ -53,7 +57,7 @@ module _ (out a : List ℕ) (c : Checked) (e : c ≡ checked_of 1 a) (z : c.refu
   same = ap terms_text fine.terms
 
   pub unplaced_refused : PlacedText out 0 (terms_text (terms_in a c.terms)) m None → refused_output (length out) output_too_short ≡ export_of (length out) (read_as 1 a)
-  unplaced_refused short = export_short (length out) a fine.number (omega (arith, ap length same, short))
+  unplaced_refused short = export_short (length out) a fine.fine (omega (arith, ap length same, short))
 
   module _ (end : ℕ) (g : PlacedText out 0 (terms_text (terms_in a c.terms)) m (Some end)) (k : length m ≡ length out) where
     fits : length whole ≤ length out
@@ -65,10 +69,10 @@ module _ (out a : List ℕ) (c : Checked) (e : c ≡ checked_of 1 a) (z : c.refu
     len : end ≡ length whole
     len = omega (arith, stands.ends)
 
-    pub placed_filled : (after : List ℕ) → after ≡ take end m ++ zeros (length m - end) → Gives (export_of (length out) (read_as 1 a)) (wrote end 0) after
+    pub placed_filled : (after : List ℕ) → after ≡ take end m ++ zeros (length m - end) → Gives (export_of (length out) (read_as 1 a)) (Ok (wrote end 0)) after
     placed_filled after q =
         let front : take end m ≡ whole = ap (take end) stands.bytes ∙ front_taken out whole end len in
-        gives_as (export_fills (length out) a fine.number fits) (record {
-          answer = ap (λ (n : ℕ). wrote n 0) len;
+        gives_as (export_fills (length out) a fine.fine fits) (record {
+          answer = ap ends_at len;
           bytes = q ∙ ap₂ {C = List ℕ} (λ (x : List ℕ) (n : ℕ). x ++ zeros n) front (ap₂ (λ (x y : ℕ). x - y) k len);
         })

@@ -7,7 +7,7 @@ use native.Mathlib.Omega.{arith}
 use lib.Dec.{lit<}
 use lib.IntN.{nat_abs}
 use lib.ListN.{length, drop, length-append}
-use Rattle.modes.specs.declared.Refusal.{Refusal}
+use Rattle.modes.specs.Answers.{none}
 use Rattle.modes.specs.declared.Term.{Term}
 use Rattle.modes.specs.Sums.{sum_by, amount_of, list_of}
 use Rattle.lent.specs.Bytes.{put}
@@ -32,7 +32,7 @@ pub record Going (text : List ℕ) (room : ℕ) (l : List ℕ) (at used : ℕ) :
   pub len : length l ≡ room
   pub inside : at ≤ length text
   pub place : ℕ
-  pub fine : (lines_refusal 64 place (pieces_from text at)).number ≡ 0
+  pub fine : lines_refusal 64 place (pieces_from text at) ≡ none
   pub light : amount_of burden (lines_from text at) ≤ 2 ^ 60
   pub fits : used + 24 * amount_of spread (lines_from text at) ≤ length l
   pub done : List Term
@@ -68,7 +68,7 @@ module _ (text : List ℕ) (room : ℕ) (l : List ℕ) (at used : ℕ) (g : Goin
   module _ (h : at < length text) (end : ℕ) (e : end ≡ at + length (front line_feed (drop at text))) (k : end ≤ length text) where
     -- a text that is not refused ends with a line feed
     pub closed : end < length text
-    closed = below_or (λ last. absurd (omega (arith, ap (λ (r : Refusal). r.number) (last_refused text at end e h last 64 g.place), g.fine)))
+    closed = below_or (λ last. let never = sym (last_refused text at end e h last 64 g.place) ∙ g.fine in cc)
       where
         below_or : (end ≡ length text → ⊥) → end < length text
         below_or n = omega arith
@@ -76,8 +76,8 @@ module _ (text : List ℕ) (room : ℕ) (l : List ℕ) (at used : ℕ) (g : Goin
     abbrev x : Line
     x = line_of (line_at text at end e)
 
-    judged : ((line_refusal 64 g.place (line_at text at end e)).number ≡ 0) × ((lines_refusal 64 (suc g.place) (pieces_from text (end + 1))).number ≡ 0)
-    judged = neither _ _ (ap (λ (r : Refusal). r.number) (sym (next_refusal text at end e closed 64 g.place)) ∙ g.fine)
+    judged : (line_refusal 64 g.place (line_at text at end e) ≡ none) × (lines_refusal 64 (suc g.place) (pieces_from text (end + 1)) ≡ none)
+    judged = neither _ _ (sym (next_refusal text at end e closed 64 g.place) ∙ g.fine)
 
     this : Fine 64 (line_at text at end e)
     this = none_fine 64 g.place (line_at text at end e) judged.0

@@ -1,6 +1,7 @@
 -- The rows of all lines of a text at the front of the work. For inner functions only.
 use Rattle.std.specs.Prelude.{◌≡◌, List, ℕ, ◌*◌, ◌^◌, ◌≤◌, length}
 use Rattle.modes.specs.declared.Term.{Term}
+use Rattle.modes.specs.Answers.{none}
 use Rattle.modes.specs.Sums.{amount_of, list_of}
 use Rattle.lent.specs.Rows.{rows_at}
 use Rattle.lines.specs.Grammar.{lines_of}
@@ -10,7 +11,7 @@ use Rattle.scan.specs.Sums.{spread, burden}
 
 -- a text whose lines can be multiplied out in a work of `room` bytes
 pub record Readable (text : List ℕ) (room : ℕ) : Type 0 where
-  pub fine : (text_refusal 64 text).number ≡ 0
+  pub fine : text_refusal 64 text ≡ none
   pub light : amount_of burden (lines_of text) ≤ 2 ^ 60
   pub fits : 24 * amount_of spread (lines_of text) ≤ room
 

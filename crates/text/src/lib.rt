@@ -2,6 +2,7 @@
 #![tactic(auto)]
 
 ghost use Rattle.std.specs.Prelude.{◌≡◌, ◌*◌, ◌≤◌, ◌<◌, ◌^◌, leb, length};
+ghost use Rattle.modes.specs.declared.Reason.TheVariants.{Malformed};
 ghost use Rattle.modes.specs.Answers.{refusal, rows_do_not_fit, product_too_heavy};
 ghost use Rattle.modes.specs.Refusals.{need, or_else};
 ghost use Rattle.modes.specs.Spaces.{space_of, is_made};
@@ -16,52 +17,45 @@ ghost use Rattle.text.specs.Export.{export_of};
 ghost use Rattle.text.specs.Gathering.{Readable, Gathered};
 ghost use Rattle.text.specs.Placing.{PlacedText};
 
-use modes::{MadeSpace, ModeSpace, Refusal, Term, Written};
+use modes::{ModeSpace, Reason, Refusal, Term, Written};
 use scan::Sums;
 
 // Number 1, of a mode count that no caller has looked at.
-fn modes_refusal(m: u64) -> Refusal
-    ensures { result ≡ need (is_made (space_of m)) (refusal 1 1 0) }
+fn modes_refusal(m: u64) -> Result<(), Refusal>
+    ensures { result ≡ need (is_made (space_of m)) (refusal Malformed 1 0) }
 {
-    match ModeSpace::from_count(m) {
-        MadeSpace::Made(_) => Refusal::NONE,
-        MadeSpace::Refused => Refusal {
-            number: 1,
+    if ModeSpace::from_count(m).is_none() {
+        return Err(Refusal {
+            reason: Reason::Malformed,
             operand: 1,
             place: 0,
-        },
+        });
     }
+    Ok(())
 }
 
 // Numbers 8 and 7. 48 times a sum may pass 64 bits, so 7 is judged by a quotient.
-fn sums_refusal(s: Sums, work: usize) -> Refusal
+fn sums_refusal(s: Sums, work: usize) -> Result<(), Refusal>
     requires { work < 2 ^ 63 }
     ensures { result ≡ or_else (need (leb s.burden (2 ^ 60)) product_too_heavy) (need (leb (48 * s.spread) work) rows_do_not_fit) }
 {
     if decimals::CEILING < s.burden {
-        return Refusal::PRODUCT_TOO_HEAVY;
+        return Err(Refusal::PRODUCT_TOO_HEAVY);
     }
     if ((work / 48) as u64) < s.spread {
-        return Refusal::ROWS_DO_NOT_FIT;
+        return Err(Refusal::ROWS_DO_NOT_FIT);
     }
-    Refusal::NONE
+    Ok(())
 }
 
 // All that refuses a text before it is multiplied out.
-fn early_refusal(m: u64, text: &[u8], work: usize) -> Refusal
+fn early_refusal(m: u64, text: &[u8], work: usize) -> Result<(), Refusal>
     requires { work < 2 ^ 63 }
     ensures { result ≡ early_refusal m work text.now }
 {
-    let bad = modes_refusal(m);
-    if bad.number != 0 {
-        return bad;
-    }
-    let s = scan::scan(m, text);
-    let refusal = s.refusal;
-    if refusal.number != 0 {
-        return refusal;
-    }
-    sums_refusal(s.sums, work)
+    modes_refusal(m)?;
+    let sums = scan::scan(m, text)?;
+    sums_refusal(sums, work)
 }
 
 // The rows of all lines to the front of the work, and where they end.
@@ -81,11 +75,10 @@ fn gather(text: &[u8], work: &mut [u8]) -> usize
 }
 
 // The lines multiplied out, joined and delivered. The work is left as it is, for `import` wipes it.
-fn bring(m: u64, text: &[u8], work: &mut [u8], out: &mut [u8]) -> Written
+fn bring(m: u64, text: &[u8], work: &mut [u8], out: &mut [u8]) -> Result<Written, Refusal>
     ensures { Gives (import_of m (length work.old) (length out.old) text.now) result out.new }
 {
-    let refusal = early_refusal(m, text, work.len());
-    if refusal.number != 0 {
+    if let Err(refusal) = early_refusal(m, text, work.len()) {
         return lent::refuse(out, refusal);
     }
     let used = gather(text, work);
@@ -94,7 +87,7 @@ fn bring(m: u64, text: &[u8], work: &mut [u8], out: &mut [u8]) -> Written
 }
 
 // The record of the sum of all lines of a text on m modes.
-pub fn import(m: u64, text: &[u8], work: &mut [u8], out: &mut [u8]) -> Written
+pub fn import(m: u64, text: &[u8], work: &mut [u8], out: &mut [u8]) -> Result<Written, Refusal>
     ensures { Leaves (import_of m (length work.old) (length out.old) text.now) result out.new (length work.old) work.new }
 {
     let w = bring(m, text, work, out);
@@ -129,21 +122,16 @@ fn place_lines(a: &[u8], n: usize, out: &mut [u8]) -> Option<usize>
 }
 
 // A record as text: a line for each term, in the record's order.
-pub fn export(a: &[u8], out: &mut [u8]) -> Written
+pub fn export(a: &[u8], out: &mut [u8]) -> Result<Written, Refusal>
     ensures { Gives (export_of (length out.old) (read_as 1 a.now)) result out.new }
 {
-    let c = record::check(a, 1);
-    if c.refusal.number != 0 {
-        let refusal = c.refusal;
-        return lent::refuse(out, refusal);
-    }
+    let c = match record::check(a, 1) {
+        Ok(c) => c,
+        Err(refusal) => return lent::refuse(out, refusal),
+    };
     let Some(len) = place_lines(a, c.terms, out) else {
         return lent::refuse(out, Refusal::OUTPUT_TOO_SHORT);
     };
     lent::wipe_from(out, len);
-    Written {
-        refusal: Refusal::NONE,
-        len,
-        branches: 0,
-    }
+    Ok(Written { len, branches: 0 })
 }

@@ -1,16 +1,20 @@
 -- `text::early_refusal` meets its contract.
+use mathlib.Core.Path.{◌∙◌}
+use Rattle.modes.proofs.Refusals.{handed_on}
 use Rattle.text.proofs.Refusing.{modes_refused, text_refused, sums_refused}
 use Rattle.text.proofs.early_refusal.Goals as goal
 
-pub returns-then-bad-ne0 : goal.returns-then-bad-ne0
-returns-then-bad-ne0 c =
-    modes_refused c.args.m c.args.work c.args.text.now _ c.modes_refusal-bad.ensures c.if-bad-ne0.true
+pub returns-in_err-modes_refusal : goal.returns-in_err-modes_refusal
+returns-in_err-modes_refusal c =
+    handed_on _ _ c.from_residual.ensures.0 c.from_residual.ensures.1
+    ∙ modes_refused c.args.m c.args.work c.args.text.now _ c.in_err-modes_refusal.ensures
 
-pub returns-then-refusal-ne0 : goal.returns-then-refusal-ne0
-returns-then-refusal-ne0 c =
-    text_refused c.args.m c.args.work c.args.text.now _ c.modes_refusal-bad.ensures c.if-bad-ne0.false _ c.scan-s.ensures c.if-refusal-ne0.true
+pub returns-in_err-sums : goal.returns-in_err-sums
+returns-in_err-sums c =
+    handed_on _ _ c.from_residual-in_err-sums.ensures.0 c.from_residual-in_err-sums.ensures.1
+    ∙ text_refused c.args.m c.args.work c.args.text.now _ c.in_ok-modes_refusal.ensures _ c.in_err-sums.ensures
 
 pub returns : goal.returns
 returns c =
-    sums_refused c.args.m c.args.work c.args.text.now _ c.modes_refusal-bad.ensures c.if-bad-ne0.false _ c.scan-s.ensures
-    c.if-refusal-ne0.false c.requires _ c.sums_refusal.ensures
+    c.sums_refusal.ensures
+    ∙ sums_refused c.args.m c.args.work c.args.text.now _ c.in_ok-modes_refusal.ensures _ c.in_ok-sums.ensures c.requires

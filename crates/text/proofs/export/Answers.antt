@@ -5,19 +5,19 @@ use Rattle.record.proofs.Outputs.{gives_as}
 use Rattle.text.proofs.Exports.{export_refused, unplaced_refused, placed_filled}
 use Rattle.text.proofs.export.Goals as goal
 
-pub returns-then-c-ne0 : goal.returns-then-c-ne0
-returns-then-c-ne0 c =
-    gives_as (export_refused (length c.args.out.now) c.args.a.now _ c.check-c.ensures c.if-c-ne0.true) c.refuse.ensures
+pub returns-in-Err : goal.returns-in-Err
+returns-in-Err c =
+    gives_as (export_refused (length c.args.out.now) c.args.a.now _ c.in-Err.ensures) c.refuse.ensures
 
 pub place_lines-requires : goal.place_lines-requires
-place_lines-requires c = (accepted 1 c.args.a.now _ c.check-c.ensures c.if-c-ne0.false).held.size
+place_lines-requires c = (accepted 1 c.args.a.now _ c.in-Ok.ensures).held.size
 
 pub returns-in_default : goal.returns-in_default
 returns-in_default c =
-    gives_as (unplaced_refused c.args.out.now c.args.a.now _ c.check-c.ensures c.if-c-ne0.false c.place_lines.new.out c.in_default.ensures)
+    gives_as (unplaced_refused c.args.out.now c.args.a.now _ c.in-Ok.ensures c.place_lines.new.out c.in_default.ensures)
     (rw c.place_lines.auto.out at c.refuse-in_default.ensures)
 
 pub returns : goal.returns
 returns c =
-    placed_filled c.args.out.now c.args.a.now _ c.check-c.ensures c.if-c-ne0.false _ _ c.in-Some.ensures c.place_lines.auto.out _
+    placed_filled c.args.out.now c.args.a.now _ c.in-Ok.ensures _ _ c.in-Some.ensures c.place_lines.auto.out _
     c.wipe_from.ensures
