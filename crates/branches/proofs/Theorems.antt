@@ -1,20 +1,21 @@
 -- What the answer says of the product, the commutator and the anticommutator of the two records.
-use mathlib.Core.Path.{◌≡◌, refl, sym, ap, ◌∙◌}
+use mathlib.Core.Path.{◌≡◌, sym, ap, ◌∙◌}
 use mathlib.Core.Bool.{true, false}
 use mathlib.Core.List.{List}
 use Prim.Native.Nat.{ℕ, ◌+◌}
 use native.Mathlib.Nat.{add-zero}
+use Rattle.std.specs.Prelude.{Ok}
 use Rattle.modes.proofs.Refusals.{not_refused}
 use Rattle.record.specs.Operands.{read_as}
 use Rattle.record.specs.Layout.{terms_of}
 use Rattle.pairs.specs.Products.{all_branches}
 use Rattle.multiply.specs.Answers.{work_refusal}
-use Rattle.branches.specs.Branches.{counted, uncounted, branches_in, branches_refusal, branches_told}
+use Rattle.branches.specs.Branches.{counted, branches_in, branches_refusal, branches_told}
 use Rattle.branches.specs.declared.BranchCounts.{BranchCounts}
 
-module _ (a b : List ℕ) (r : BranchCounts) (er : r ≡ branches_told (read_as 1 a) (read_as 2 b)) (z : r.refusal.number ≡ 0) where
+module _ (a b : List ℕ) (r : BranchCounts) (er : Ok r ≡ branches_told (read_as 1 a) (read_as 2 b)) where
   is : r ≡ counted (branches_in (read_as 1 a) (read_as 2 b)) (branches_in (read_as 2 b) (read_as 1 a))
-  is = (not_refused (branches_refusal (read_as 1 a) (read_as 2 b)) uncounted _ (λ c. c.refusal) refl r er z).1
+  is = (not_refused _ (branches_refusal (read_as 1 a) (read_as 2 b)) r er).1
 
   -- 7 refuses the product of a and b as if its branches were those told, whatever the work
   pub mul_work : (work : ℕ) → work_refusal work (all_branches false (terms_of a) (terms_of b)) ≡ work_refusal work r.forward

@@ -8,31 +8,18 @@ ghost use Rattle.record.specs.Layout.{terms_in};
 ghost use Rattle.pairs.specs.Products.{branches_of, branches_with, branches_of_all};
 ghost use Rattle.record.specs.Reading.{Holds};
 ghost use Rattle.branches.specs.Ceiling.{most, up_to};
-ghost use Rattle.branches.specs.Branches.{uncounted, branches_told};
+ghost use Rattle.branches.specs.Branches.{branches_told};
 
 use modes::{Refusal, Term};
 
 // The most branches whose rows take no more than 2^63 bytes. A count goes no further than one above it, so that no sum wraps.
 const MOST: u64 = 384_307_168_202_282_325;
 
-// The branches of a b and of b a, both 0 where the records are refused.
+// The branches of a b and of b a.
 #[derive(Clone, Copy)]
 pub struct BranchCounts {
-    pub refusal: Refusal,
     pub forward: u64,
     pub backward: u64,
-}
-
-impl BranchCounts {
-    fn refused(refusal: Refusal) -> BranchCounts
-        ensures { result ≡ uncounted refusal }
-    {
-        BranchCounts {
-            refusal,
-            forward: 0,
-            backward: 0,
-        }
-    }
 }
 
 // Two counts together.
@@ -97,22 +84,14 @@ fn of_all(a: &[u8], na: usize, b: &[u8], nb: usize) -> u64
 
 // The branches of the product a b and of the product b a. Nothing is lent: the pairs of terms are only looked at.
 #[tactic(auto, using(crate::proofs::Ceiling::up_small))]
-pub fn branches(a: &[u8], b: &[u8]) -> BranchCounts
+pub fn branches(a: &[u8], b: &[u8]) -> Result<BranchCounts, Refusal>
     ensures { result ≡ branches_told (read_as 1 a.now) (read_as 2 b.now) }
 {
-    let p = results::open_operands(a, b);
-    if p.refusal.number != 0 {
-        let refusal = p.refusal;
-        return BranchCounts::refused(refusal);
-    }
+    let p = results::open_operands(a, b)?;
     let forward = of_all(a, p.left, b, p.right);
     let backward = of_all(b, p.right, a, p.left);
     if MOST < forward + backward {
-        return BranchCounts::refused(Refusal::ROWS_DO_NOT_FIT);
+        return Err(Refusal::ROWS_DO_NOT_FIT);
     }
-    BranchCounts {
-        refusal: Refusal::NONE,
-        forward,
-        backward,
-    }
+    Ok(BranchCounts { forward, backward })
 }

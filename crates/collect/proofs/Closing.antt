@@ -1,5 +1,5 @@
 -- A row closed: what stands at the front then, and that nothing behind it is written.
-use mathlib.Core.Path.{◌≡◌, refl, sym, ap, ◌∙◌}
+use mathlib.Core.Path.{◌≡◌, sym, ap, ◌∙◌}
 use mathlib.Core.List.{List}
 use Prim.Native.Nat.{ℕ, ◌+◌, ◌*◌, ◌-◌, ◌≤◌}
 use native.Mathlib.Nat.{zero-add}
@@ -8,17 +8,12 @@ use lib.ListN.{length, take, drop}
 use lib.Seq.{drop-drop}
 use mir.Syntax.{w64}
 use mir.Val.{to_z, of_z}
-use mir.Facts.{to_z-of_z}
 use Rattle.modes.specs.declared.Term.{Term}
 use Rattle.lent.specs.Bytes.{num, num_at, word_at}
 use Rattle.lent.specs.Rows.{Fit, row_bytes, row_at, rows_at, put_row}
 use Rattle.lent.proofs.Puts.{length_put, drop_put}
 use Rattle.lent.proofs.RowLaws.{term_of, length_row, rows_put}
-use Rattle.collect.specs.Steps.{dropped, stored, Closed}
-
--- the code's test is on the bits of the coefficient
-pub closed_dropped : (p : ℕ) (x : Term) (l : List ℕ) → Fit x → of_z w64 x.coeff ≡ 0 → Closed p x l l p
-closed_dropped p x l f z = record { count = omega arith; len = refl; ahead = refl; rows = dropped (sym (to_z-of_z f.coeff) ∙ ap (to_z w64) z) refl }
+use Rattle.collect.specs.Steps.{stored, Closed}
 
 pub closed_stored : (p : ℕ) (x : Term) (l m : List ℕ) → 24 * p + 24 ≤ length l → Fit x → (of_z w64 x.coeff ≡ 0 → ⊥) → m ≡ put_row l (24 * p) x
     → Closed p x l m (p + 1)

@@ -99,9 +99,6 @@ module _ (n i : ℕ) (l m : List ℕ) (p : ℕ) (x : Term) (s : Joining n i l m 
     joining_on m2 q z (joined e f em eq ez) = rw (em, eq, ez) (after_joined e f)
     joining_on m2 q z (opened other c ez f) = rw ez (after_closed m2 q other c f)
 
-pub place_room : (n i : ℕ) (l m : List ℕ) (p : ℕ) (x : Term) → Joining n i l m p x → 24 * n ≤ length l → 24 * p + 24 ≤ length m
-place_room n i l m p x s h = rw s.len (omega (arith, s.under, s.to))
-
 pub joined_none : (n : ℕ) (l : List ℕ) → n ≡ 0 → Collected n l l 0
 unfolding rows_at collect drop_zeros
 joined_none n l e = record { count = omega arith; len = refl; past = refl; rows = rw e; fit = none }

@@ -11,12 +11,11 @@ use Rattle.modes.proofs.Sums.{sum_through}
 use Rattle.lent.specs.Rows.{row_at, rows_at}
 use Rattle.lent.proofs.RowLaws.{length_rows_at}
 use Rattle.places.specs.declared.Places.{Places}
-use Rattle.places.specs.Apart.{Apart}
 use Rattle.places.specs.Order.{key}
 use Rattle.places.specs.Places.{row_places, term_in}
 use Rattle.modes.specs.Sums.{sum_of}
 use Rattle.quicksort.specs.Sorted.{Sorted}
-use Rattle.places.proofs.Layouts.{rows_apart, term_row, terms_rows}
+use Rattle.places.proofs.Layouts.{term_row, terms_rows}
 use Rattle.quicksort.proofs.SortedTerms.{arranged, sum_kept, sorted_ascending, rows_around}
 use Rattle.record.specs.Coefficients.{coeff_in, coeff_of}
 use Rattle.normal.proofs.Normal.{normal_same}
@@ -29,10 +28,6 @@ use Rattle.collect.proofs.Closing.{same_from}
 weight_sum : (cre ann : ℕ) (ts : List Term) → pos (key_weight cre ann ts) ≡ sum_of (λ t. pos (nat_abs (coeff_in cre ann t))) ts
 unfolding sum_of key_weight
 weight_sum cre ann = sum_through {op = ◌+◌} {to = ◌+ℤ◌} {h = pos} (record { none = refl; add = λ x y. refl }) (λ t. nat_abs (coeff_in cre ann t))
-
--- rows at the front are places
-pub front_apart : (places : Places) (n size : ℕ) → places ≡ row_places 0 → 24 * n ≤ size → Apart places n size
-front_apart places n size e h = rw e (rows_apart 0 n size (omega arith))
 
 module _ (n : ℕ) (l m : List ℕ) (places : Places) (front : places ≡ row_places 0) (sorted : Sorted places n l m) where
   in_rows_is : Sorted (row_places 0) n l m

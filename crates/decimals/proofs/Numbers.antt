@@ -1,6 +1,6 @@
 -- Numbers read byte by byte: what a byte adds, and that a ceiling on the way changes nothing below it.
 use mathlib.Core.Path.{◌≡◌, refl, sym, ap, ◌∙◌}
-use mathlib.Core.Bool.{Bool, not, ◌&&◌, and-true, and_assoc}
+use mathlib.Core.Bool.{Bool, true, false, cond, not, ◌&&◌}
 use mathlib.Core.List.{List, [], ◌∷◌}
 use Prim.Native.Nat.{ℕ, suc, ◌+◌, ◌*◌, ◌-◌, ◌^◌, ◌≤◌, ◌<◌}
 use native.Mathlib.Numerals.{add-one}
@@ -12,7 +12,8 @@ use borrow.Author.Tests.{ne_eqb}
 use Rattle.decimals.specs.Decimal.{read_on}
 use Rattle.decimals.specs.Numbers.{is_digit, all_digits, starts_well, is_number}
 use Rattle.decimals.specs.Ceiling.{up_to, number_in}
-use Rattle.decimals.specs.declared.Number.{Number}
+use Rattle.std.specs.Prelude.{Some, None}
+use Rattle.std.proofs.lemmas.Option.{cond_some}
 
 pub starts_short : (l : List ℕ) → length l < 2 → eqb (length l) 1 ≡ starts_well l
 unfolding starts_well
@@ -35,42 +36,51 @@ read_capped (d ∷ l) x y e = read_capped l (10 * x + (d - 48)) (10 * y + (d - 4
 pub drop_next : (l : List ℕ) (i : ℕ) → i < length l → drop i l ≡ get_or l i 0 ∷ drop (i + 1) l
 drop_next l i h = rw (drop-cons l i 0 h, add-one)
 
--- of the number in l, the bytes from i on are to come after n
-pub record Reading (l : List ℕ) (n : Number) (i : ℕ) : Type 0 where
+-- nothing is only where the test fails
+pub cond_none : {A : Type 0} (b : Bool) (x : A) → None ≡ cond b (Some x) None → b ≡ false
+cond_none true x e = absurd cc
+cond_none false x e = refl
+
+-- of the number in l, which starts well, the bytes from i on are to come after v
+pub record Reading (l : List ℕ) (v i : ℕ) : Type 0 where
   pub inside : i ≤ length l
-  pub small : n.value ≤ 2 ^ 60 + 1
-  pub good : is_number l ≡ n.good && all_digits (drop i l)
-  pub value : up_to (read_on 0 l) ≡ up_to (read_on n.value (drop i l))
+  pub small : v ≤ 2 ^ 60 + 1
+  pub good : is_number l ≡ all_digits (drop i l)
+  pub value : up_to (read_on 0 l) ≡ up_to (read_on v (drop i l))
 
-pub reading_starts : (l : List ℕ) (b : Bool) → b ≡ starts_well l → Reading l (record { good = b; value = 0 }) 0
-reading_starts l b e = record { inside = omega arith; small = omega arith; good = ap (λ (x : Bool). x && all_digits l) (sym e); value = refl }
+module _ (l : List ℕ) (v i : ℕ) (g : Reading l v i) where
+  module _ (h : i < length l) where
+    abbrev b : ℕ
+    b = get_or l i 0
 
-module _ (l : List ℕ) (n : Number) (i : ℕ) (g : Reading l n i) where
-  pub reading_goes : i < length l → (r : Number) → r.good ≡ n.good && is_digit (get_or l i 0) → r.value ≡ up_to (10 * n.value + (get_or l i 0 - 48))
-      → r.value ≤ 2 ^ 60 + 1 → Reading l r (i + 1)
-  unfolding all_digits read_on
-  reading_goes h r eg ev small =
-      let first : drop i l ≡ get_or l i 0 ∷ drop (i + 1) l = drop_next l i h in
-      record {
-        inside = omega arith;
-        small = small;
-        good = g.good ∙ ap (λ (k : List ℕ). n.good && all_digits k) first ∙ sym (and_assoc n.good (is_digit (get_or l i 0)) (all_digits (drop (i + 1) l)))
-            ∙ ap (λ (b : Bool). b && all_digits (drop (i + 1) l)) (sym eg);
-        value = g.value ∙ ap (λ (k : List ℕ). up_to (read_on n.value k)) first
-            ∙ read_capped (drop (i + 1) l) (10 * n.value + (get_or l i 0 - 48)) r.value (omega (arith, ev));
-      }
+    next_good : is_number l ≡ is_digit b && all_digits (drop (i + 1) l)
+    unfolding all_digits
+    next_good = g.good ∙ ap all_digits (drop_next l i h)
 
-  pub reading_ends : length l ≤ i → n ≡ number_in l
+    -- a byte more
+    pub reading_goes : (r : ℕ) → Some r ≡ cond (is_digit b) (Some (up_to (10 * v + (b - 48)))) None → r ≤ 2 ^ 60 + 1 → Reading l r (i + 1)
+    unfolding read_on
+    reading_goes r e small =
+        let read = cond_some (is_digit b) _ _ (sym e) in
+        record {
+          inside = omega arith;
+          small = small;
+          good = next_good ∙ ap (λ (x : Bool). x && all_digits (drop (i + 1) l)) read.0;
+          value = g.value ∙ ap (λ (k : List ℕ). up_to (read_on v k)) (drop_next l i h)
+              ∙ read_capped (drop (i + 1) l) (10 * v + (b - 48)) r (omega (arith, read.1));
+        }
+
+    -- a byte that is no digit
+    pub reading_breaks : None ≡ cond (is_digit b) (Some (up_to (10 * v + (b - 48)))) None → None ≡ number_in l
+    reading_breaks e = rw (next_good, cond_none (is_digit b) _ e)
+
+  pub reading_ends : length l ≤ i → Some v ≡ number_in l
   unfolding all_digits read_on
   reading_ends h =
-      let none : drop i l ≡ [] = nothing_left in
-      let good : n.good ≡ is_number l = sym (g.good ∙ ap (λ (k : List ℕ). n.good && all_digits k) none ∙ and-true n.good) in
-      let value : n.value ≡ up_to (read_on 0 l) =
-      sym (g.value ∙ ap (λ (k : List ℕ). up_to (read_on n.value k)) none ∙ capped) in
-      λ j. record { good = good j; value = value j }
+      let none : drop i l ≡ [] = drop_of_length-le l h in
+      let good : is_number l ≡ true = g.good ∙ ap all_digits none in
+      let value : up_to (read_on 0 l) ≡ v = g.value ∙ ap (λ (k : List ℕ). up_to (read_on v k)) none ∙ capped in
+      rw (good, value)
     where
-      nothing_left : drop i l ≡ []
-      nothing_left = drop_of_length-le l h
-
-      capped : up_to n.value ≡ n.value
+      capped : up_to v ≡ v
       capped = omega (arith, g.small)

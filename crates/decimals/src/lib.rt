@@ -1,7 +1,7 @@
 // Numbers in decimal, as ASCII, in lent bytes.
 #![tactic(auto)]
 
-ghost use Rattle.std.specs.Prelude.{◌≡◌, ◌&&◌, [], ◌∷◌, ◌+◌, ◌-◌, ◌*◌, ◌≤◌, ◌<◌, ◌^◌, length};
+ghost use Rattle.std.specs.Prelude.{◌≡◌, cond, [], ◌∷◌, ◌+◌, ◌-◌, ◌*◌, ◌≤◌, ◌<◌, ◌^◌, Some, None, IfSome, length};
 ghost use Rattle.decimals.specs.Decimal.{decimal, field};
 ghost use Rattle.decimals.specs.Numbers.{is_digit, starts_well};
 ghost use Rattle.decimals.specs.Ceiling.{up_to, number_in};
@@ -9,13 +9,6 @@ ghost use Rattle.decimals.specs.Stores.{Stored};
 
 // The largest number that is read as it is; one above it stands for every larger one.
 pub const CEILING: u64 = 1152921504606846976;
-
-// Bytes read as a number: whether they are one, and what they make, as far as one above the ceiling.
-#[derive(Clone, Copy)]
-pub struct Number {
-    pub good: bool,
-    pub value: u64,
-}
 
 // One digit to `at`, and where it ends.
 fn put_digit(s: &mut [u8], at: usize, digit: u64) -> usize
@@ -52,30 +45,18 @@ pub fn put_field(s: &mut [u8], at: usize, n: u64, end: u8) -> usize
 pub fn up_to(n: u64) -> u64
     ensures { (result ≡ up_to n) × (result ≤ 2 ^ 60 + 1) }
 {
-    if CEILING < n { CEILING + 1 } else { n }
+    n.min(CEILING + 1)
 }
 
-fn is_digit(b: u8) -> bool
-    ensures { result ≡ is_digit b }
+// A number with one byte more, of which what was read is at most one above the ceiling.
+fn read_byte(value: u64, b: u8) -> Option<u64>
+    requires { value ≤ 2 ^ 60 + 1 }
+    ensures { (result ≡ cond (is_digit b) (Some (up_to (10 * value + (b - 48)))) None) × IfSome result (λ v. v ≤ 2 ^ 60 + 1) }
 {
-    b'0' <= b && b <= b'9'
-}
-
-// How far a byte is above the digit 0.
-fn digit_of(b: u8) -> u64
-    ensures { (result ≡ b - 48) × (result < 256) }
-{
-    if b < b'0' { 0 } else { (b - b'0') as u64 }
-}
-
-// One byte more of a number, of which what was read is at most one above the ceiling.
-fn read_byte(n: Number, b: u8) -> Number
-    requires { n.value ≤ 2 ^ 60 + 1 }
-    ensures { (result.good ≡ (n.good && is_digit b)) × (result.value ≡ up_to (10 * n.value + (b - 48))) × (result.value ≤ 2 ^ 60 + 1) }
-{
-    let value = up_to(10 * n.value + digit_of(b));
-    let good = n.good && is_digit(b);
-    Number { good, value }
+    if !b.is_ascii_digit() {
+        return None;
+    }
+    Some(up_to(10 * value + (b - b'0') as u64))
 }
 
 // Is there a byte, and no zero in front of others?
@@ -88,18 +69,16 @@ fn starts_well(s: &[u8]) -> bool
     s[0] != b'0'
 }
 
-// Any bytes as a number of any length.
-pub fn read_number(s: &[u8]) -> Number
+// Any bytes as a number of any length, as far as one above the ceiling.
+pub fn read_number(s: &[u8]) -> Option<u64>
     ensures { result ≡ number_in s.now }
 {
-    let mut n = Number {
-        good: starts_well(s),
-        value: 0,
-    };
-    let mut i = 0;
-    while i < s.len() {
-        n = read_byte(n, s[i]);
-        i += 1;
+    if !starts_well(s) {
+        return None;
     }
-    n
+    let mut value = 0;
+    for b in s {
+        value = read_byte(value, *b)?;
+    }
+    Some(value)
 }

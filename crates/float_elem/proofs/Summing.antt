@@ -4,17 +4,17 @@ use mathlib.Core.Bool.{Bool, true, false}
 use mathlib.Core.List.{List, [], ◌∷◌}
 use Prim.Native.Nat.{ℕ, suc, ◌+◌, ◌^◌, ◌<◌}
 use native.Mathlib.Numerals.{add-one}
-use native.Mathlib.Omega.{arith}
 use lib.Bits.{bit_xor}
 use lib.ListN.{length, get_or}
 use lib.Ieee.{Float, nan}
 use borrow.Author.Tests.{ne_eqb}
+use Rattle.std.specs.Prelude.{Ok, Err}
 use Rattle.modes.specs.Answers.{refusal, none}
+use Rattle.modes.specs.declared.Reason.TheVariants.{NotFinite}
 use Rattle.products.proofs.Changes.{elsewhere}
 use Rattle.modes.specs.Refusals.{first_refusal, need, unless}
 use Rattle.modes.proofs.FirstRefusals.{first_starts, first_goes, first_stays}
 use Rattle.float_elem.specs.Sums.{plus_zero, added_float, joined, sum_to}
-use Rattle.float_elem.specs.Answers.{valued, no_values}
 use Rattle.float_elem.specs.Elements.{all_finite, sum_at, sum_refusal, summed}
 
 -- ---- a term that changes other modes than those in which bra and ket differ
@@ -43,8 +43,9 @@ module _ (bra ket : ℕ) (cre ann : List ℕ) (re im : List Float) where
   part_on cs i x z e h = h ∙ ap (joined bra ket (get_or cre i 0) (get_or ann i 0) (get_or cs i nan)) e
 
   module _ (x y : Float) (i : ℕ) (so : Running bra ket cre ann re im x y i) (z w : Float)
-      (ez : z ≡ joined bra ket (get_or cre i 0) (get_or ann i 0) (get_or re i nan) x) (ew : w ≡ joined bra ket (get_or cre i 0) (get_or ann i 0) (get_or im i nan) y) where
-    at : (b : Bool) → all_finite (z ∷ w ∷ []) ≡ b → sum_at bra ket cre ann (re ∷ im ∷ []) i ≡ need b (refusal 13 1 i)
+      (ez : z ≡ joined bra ket (get_or cre i 0) (get_or ann i 0) (get_or re i nan) x)
+      (ew : w ≡ joined bra ket (get_or cre i 0) (get_or ann i 0) (get_or im i nan) y) where
+    at : (b : Bool) → all_finite (z ∷ w ∷ []) ≡ b → sum_at bra ket cre ann (re ∷ im ∷ []) i ≡ need b (refusal NotFinite 1 i)
     at b e = rw (← part_on re i x z so.res ez, ← part_on im i y w so.ims ew, e)
 
     pub sums_go : all_finite (z ∷ w ∷ []) ≡ true → (j : ℕ) → j ≡ i + 1 → Running bra ket cre ann re im z w j
@@ -56,17 +57,18 @@ module _ (bra ket : ℕ) (cre ann : List ℕ) (re im : List Float) where
           finite_now = f;
         })
 
-    pub sums_stop : all_finite (z ∷ w ∷ []) ≡ false → i < length cre → no_values (refusal 13 1 i) ≡ summed bra ket cre ann (re ∷ im ∷ [])
+    pub sums_stop : all_finite (z ∷ w ∷ []) ≡ false → i < length cre → Err (refusal NotFinite 1 i) ≡ summed bra ket cre ann (re ∷ im ∷ [])
     unfolding sum_refusal unless
-    sums_stop e l = rw (← first_stays _ i so.fine _ (sym (at false e)) (λ q. omega arith) (length cre) l)
+    sums_stop e l = rw (← first_stays _ i so.fine _ (sym (at false e)) (length cre) l)
 
   -- past a term that adds nothing
   pub sums_stay : (x y : Float) (i : ℕ) → Running bra ket cre ann re im x y i → get_or cre i 0 < 2 ^ 64 → get_or ann i 0 < 2 ^ 64
       → (bit_xor (get_or cre i 0) (get_or ann i 0) ≡ bit_xor bra ket → ⊥) → (j : ℕ) → j ≡ i + 1 → Running bra ket cre ann re im x y j
   sums_stay x y i so hc ha n =
-      let stays : (c z : Float) → z ≡ joined bra ket (get_or cre i 0) (get_or ann i 0) c z = λ c z. joined_elsewhere bra ket (get_or cre i 0) (get_or ann i 0) c z hc ha n in
+      let stays : (c z : Float) → z ≡ joined bra ket (get_or cre i 0) (get_or ann i 0) c z =
+      λ c z. joined_elsewhere bra ket (get_or cre i 0) (get_or ann i 0) c z hc ha n in
       sums_go x y i so x y (stays (get_or re i nan) x) (stays (get_or im i nan) y) so.finite_now
 
-  pub sums_end : (x y : Float) (i : ℕ) → Running bra ket cre ann re im x y i → i ≡ length cre → valued (x ∷ y ∷ []) ≡ summed bra ket cre ann (re ∷ im ∷ [])
+  pub sums_end : (x y : Float) (i : ℕ) → Running bra ket cre ann re im x y i → i ≡ length cre → Ok (x ∷ y ∷ []) ≡ summed bra ket cre ann (re ∷ im ∷ [])
   unfolding sum_refusal unless
   sums_end x y i so e = rw (← e, so.fine, ← so.res, ← so.ims)

@@ -1,6 +1,6 @@
 -- Theorems on float elements: every value that comes out is finite; and with exactly one joining term it is that term's coefficient, signed, exactly.
 use mathlib.Core.Path.{◌≡◌, refl, sym, ap, ap₂, ◌∙◌}
-use mathlib.Core.Bool.{Bool, true, false, cond}
+use mathlib.Core.Bool.{Bool, true, false}
 use mathlib.Core.List.{List, [], ◌∷◌, map}
 use mathlib.Core.Logic.{⊎_elim}
 use Prim.Native.Nat.{ℕ, zero, suc, ◌+◌, ◌-◌, ◌≤◌, ◌<◌}
@@ -13,26 +13,24 @@ use lib.ListN.{length, get_or}
 use lib.Ieee.{Float, nan, inf, fin, neg, binary64, fits}
 use lib.Ieee.Scale.{finite}
 use lib.Ieee.Fits.{neg-fits}
+use Rattle.std.specs.Prelude.{Ok, Err}
 use Rattle.modes.specs.Answers.{refusal, none}
+use Rattle.modes.specs.declared.Reason.TheVariants.{WordOutside, NotFinite}
 use Rattle.modes.proofs.Bools.{and_l, and_r}
 use Rattle.modes.proofs.Digits.{lt_or_ge}
 use Rattle.products.specs.PhaseRule.{Outcome, gone, went}
 use Rattle.modes.specs.Every.{Every, none as nothing, more}
 use Rattle.modes.specs.Refusals.{or_else, first_refusal, need, unless}
 use Rattle.modes.specs.Spaces.{inside}
-use Rattle.modes.proofs.Refusals.{or_second, neither, either_way}
+use Rattle.modes.proofs.Refusals.{or_second, neither, needed, either_way}
 use Rattle.modes.proofs.FirstRefusals.{first_starts, first_none, first_goes}
 use Rattle.float_elem.specs.Sums.{plus_zero, signed_float, added_float, sum_to}
-use Rattle.float_elem.specs.Answers.{valued, no_values}
+use Rattle.float_elem.specs.Answers.{values_in}
 use Rattle.float_elem.specs.Elements.{all_finite, float_term_refusal, term_at, input_refusal, sums_to, sum_at, sum_refusal, float_element}
 use Rattle.float_elem.specs.Single.{exactly, Doubles, OnlyJoins}
 use Rattle.float_elem.proofs.Exact.{one_term}
 
 -- ---- every value that comes out is finite
-
-finite_there : (b : Bool) (i : ℕ) → (cond b none (refusal 13 1 i)).number ≡ 0 → b ≡ true
-finite_there true i z = refl
-finite_there false i z = absurd (omega arith)
 
 module _ (bra ket : ℕ) (cre ann : List ℕ) where
   start_finite : (parts : List (List Float)) → all_finite (sums_to bra ket cre ann parts 0) ≡ true
@@ -40,16 +38,17 @@ module _ (bra ket : ℕ) (cre ann : List ℕ) where
   start_finite [] = refl
   start_finite (cs ∷ parts) = start_finite parts
 
-  sums_finite : (parts : List (List Float)) (n : ℕ) → (first_refusal (sum_at bra ket cre ann parts) n).number ≡ 0 → all_finite (sums_to bra ket cre ann parts n) ≡ true
+  sums_finite : (parts : List (List Float)) (n : ℕ) → first_refusal (sum_at bra ket cre ann parts) n ≡ none
+      → all_finite (sums_to bra ket cre ann parts n) ≡ true
   sums_finite parts zero z = start_finite parts
-  sums_finite parts (suc n) z = finite_there _ n (first_none (sum_at bra ket cre ann parts) (suc n) n z (omega arith))
+  sums_finite parts (suc n) z = needed _ (refusal NotFinite 1 n) (first_none (sum_at bra ket cre ann parts) (suc n) n z (omega arith))
 
-pub values_finite : (m : ℕ) (cre ann : List ℕ) (parts : List (List Float)) (bra ket : ℕ) → all_finite (float_element m cre ann parts bra ket).values ≡ true
+pub values_finite : (m : ℕ) (cre ann : List ℕ) (parts : List (List Float)) (bra ket : ℕ) → all_finite (values_in (float_element m cre ann parts bra ket)) ≡ true
 unfolding sum_refusal
 values_finite m cre ann parts bra ket =
-    either_way (or_else (input_refusal m cre ann parts bra ket) (sum_refusal bra ket cre ann parts)) no_values (valued (sums_to bra ket cre ann parts (length cre)))
-    (λ t. all_finite t.values ≡ true)
-    (λ z. sums_finite bra ket cre ann parts (length cre) (neither _ _ z).1) (λ h. refl)
+    either_way (or_else (input_refusal m cre ann parts bra ket) (sum_refusal bra ket cre ann parts)) Err (Ok (sums_to bra ket cre ann parts (length cre)))
+    (λ t. all_finite (values_in t) ≡ true)
+    (λ z. sums_finite bra ket cre ann parts (length cre) (neither _ _ z).1) (λ r e. refl)
 
 -- ---- exactly one joining term
 
@@ -104,7 +103,8 @@ module _ (bra ket : ℕ) (cre ann : List ℕ) (n i : ℕ) (s : Bool) (only : Onl
 
     finite_so_far : finite (get_or cs i nan) ≡ true → (k : ℕ) → k ≤ n → finite (sum_to bra ket cre ann cs k) ≡ true
     finite_so_far f k h =
-        ⊎_elim (λ l. rw (from k l h) (exactly_finite (signed_float s (get_or cs i nan)) (signed_finite s (get_or cs i nan) f))) (λ l. rw (before k l)) (lt_or_ge i k)
+        ⊎_elim (λ l. rw (from k l h) (exactly_finite (signed_float s (get_or cs i nan)) (signed_finite s (get_or cs i nan) f)))
+        (λ l. rw (before k l)) (lt_or_ge i k)
 
   -- all parts
   all_so_far : (parts : List (List Float)) → Every Doubles parts → all_finite (map (λ cs. get_or cs i nan) parts) ≡ true → (k : ℕ) → k ≤ n
@@ -117,21 +117,22 @@ module _ (bra ket : ℕ) (cre ann : List ℕ) (n i : ℕ) (s : Bool) (only : Onl
       → first_refusal (sum_at bra ket cre ann parts) k ≡ none
   none_stops parts d f zero h = first_starts _
   none_stops parts d f (suc k) h =
-      sym (ap (first_refusal (sum_at bra ket cre ann parts)) (add-one k)) ∙ first_goes _ k (none_stops parts d f k (omega arith)) (rw (all_so_far parts d f (suc k) h))
+      sym (ap (first_refusal (sum_at bra ket cre ann parts)) (add-one k))
+      ∙ first_goes _ k (none_stops parts d f k (omega arith)) (rw (all_so_far parts d f (suc k) h))
 
   all_came : (parts : List (List Float)) → Every Doubles parts → sums_to bra ket cre ann parts n ≡ map came parts
   all_came [] nothing = refl
   all_came (cs ∷ parts) (more d ds) = ap₂ (λ (x : Float) (xs : List Float). x ∷ xs) (from cs d n only.inside (omega arith)) (all_came parts ds)
 
-term_finite : (m i cre ann : ℕ) (c : List Float) → (float_term_refusal m i cre ann c).number ≡ 0 → all_finite c ≡ true
+term_finite : (m i cre ann : ℕ) (c : List Float) → float_term_refusal m i cre ann c ≡ none → all_finite c ≡ true
 unfolding float_term_refusal
-term_finite m i cre ann c z = finite_there _ i (neither (need (inside m cre ann) (refusal 2 1 i)) _ z).1
+term_finite m i cre ann c z = needed _ (refusal NotFinite 1 i) (neither (need (inside m cre ann) (refusal WordOutside 1 i)) _ z).1
 
 -- where the inputs are not refused, one joining term is answered by its coefficient with its sign
 pub one_joining : (m : ℕ) (cre ann : List ℕ) (parts : List (List Float)) (bra ket i : ℕ) (s : Bool) → Every Doubles parts
-    → (input_refusal m cre ann parts bra ket).number ≡ 0
+    → input_refusal m cre ann parts bra ket ≡ none
     → OnlyJoins bra ket cre ann (length cre) i s
-    → float_element m cre ann parts bra ket ≡ valued (map (λ cs. exactly (signed_float s (get_or cs i nan))) parts)
+    → float_element m cre ann parts bra ket ≡ Ok (map (λ cs. exactly (signed_float s (get_or cs i nan))) parts)
 unfolding input_refusal sum_refusal unless
 one_joining m cre ann parts bra ket i s d z only =
     let terms = (neither _ _ (neither _ _ z).1).0 in

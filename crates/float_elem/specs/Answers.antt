@@ -1,22 +1,24 @@
--- What each case of an answer tells: the refusal's number, operand and place, or none, and the values.
-use Rattle.std.specs.Prelude.{List, [], ◌∷◌, Float}
-use Rattle.modes.specs.Answers.{none}
+-- What an answer tells: its values as a list of floats, or its refusal.
+use Rattle.std.specs.Prelude.{List, [], ◌∷◌, Float, Result, Ok, Err}
 use Rattle.modes.specs.declared.Refusal.{Refusal}
-use Rattle.float_elem.specs.declared.FloatElement.{FloatElement}
-use Rattle.float_elem.specs.declared.FloatElement.TheVariants.{Real, Complex, Refused}
+use Rattle.float_elem.specs.declared.Complex64.{Complex64}
 
-pub record Told : Type 0 where
-  pub refusal : Refusal
-  pub values : List Float
+abbrev pub Told : Type 0
+Told = Result (List Float) Refusal
 
-abbrev pub valued : List Float → Told
-valued values = record { refusal = none; values = values }
+-- the values of what is answered, or the refusal itself
+abbrev pub told_by : {A : Type 0} → (A → List Float) → Result A Refusal → Told
+told_by values (Ok x) = Ok (values x)
+told_by values (Err r) = Err r
 
-abbrev pub no_values : Refusal → Told
-no_values r = record { refusal = r; values = [] }
+-- a real has one value, and a complex its re and its im
+abbrev pub real_values : Float → List Float
+real_values x = x ∷ []
 
--- a real has one value, a complex its re and its im, and a refusal none
-abbrev pub told_by : FloatElement → Told
-told_by (Real x) = valued (x ∷ [])
-told_by (Complex z) = valued (z.re ∷ z.im ∷ [])
-told_by (Refused r) = no_values r
+abbrev pub complex_values : Complex64 → List Float
+complex_values z = z.re ∷ z.im ∷ []
+
+-- the values that are told; a refusal has none
+abbrev pub values_in : Told → List Float
+values_in (Ok xs) = xs
+values_in (Err r) = []

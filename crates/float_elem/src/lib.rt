@@ -4,11 +4,11 @@
 ghost use Rattle.std.specs.Prelude.{◌≡◌, [], ◌∷◌, length};
 ghost use Rattle.modes.specs.Refusals.{first_refusal};
 ghost use Rattle.float_elem.specs.Sums.{joined};
-ghost use Rattle.float_elem.specs.Answers.{told_by};
+ghost use Rattle.float_elem.specs.Answers.{told_by, real_values, complex_values};
 ghost use Rattle.float_elem.specs.Elements.{all_finite, listed, float_term_refusal, term_at, summed, float_element};
 ghost use Rattle.float_elem.specs.Lengths.{OneLength};
 
-use modes::{MadeSpace, ModeSpace, Refusal};
+use modes::{ModeSpace, Reason, Refusal};
 use products::ApplyResult;
 
 // A complex number; also the running sum of an element.
@@ -20,14 +20,6 @@ pub struct Complex64 {
 
 impl Complex64 {
     pub const ZERO: Complex64 = Complex64 { re: 0.0, im: 0.0 };
-}
-
-// An element: a real, a complex, or why there is none.
-#[derive(Clone, Copy)]
-pub enum FloatElement {
-    Real(f64),
-    Complex(Complex64),
-    Refused(Refusal),
 }
 
 // Neither part is a NaN or an infinity.
@@ -43,9 +35,9 @@ fn are_finite(z: Complex64) -> bool
 fn is_listed(m: u64, cre: &[u64], ann: &[u64], re: &[f64], im: &[f64]) -> bool
     ensures { result ≡ listed m cre.now ann.now (re.now ∷ im.now ∷ []) }
 {
-    let MadeSpace::Made(_) = ModeSpace::from_count(m) else {
+    if ModeSpace::from_count(m).is_none() {
         return false;
-    };
+    }
     if modes::MOST_TERMS < cre.len() {
         return false;
     }
@@ -60,28 +52,34 @@ fn is_listed(m: u64, cre: &[u64], ann: &[u64], re: &[f64], im: &[f64]) -> bool
 
 // Numbers 2 and 13 of the term at `place`.
 #[tactic(auto, unfolding(crate::specs::Elements::float_term_refusal, modes::specs::Refusals::or_else))]
-fn term_refusal(space: ModeSpace, place: u64, cre: u64, ann: u64, c: Complex64) -> Refusal
+fn term_refusal(
+    space: ModeSpace,
+    place: u64,
+    cre: u64,
+    ann: u64,
+    c: Complex64,
+) -> Result<(), Refusal>
     ensures { result ≡ float_term_refusal space.count place cre ann (c.re ∷ c.im ∷ []) }
 {
     if !modes::is_inside(space, cre, ann) {
-        return Refusal {
-            number: 2,
+        return Err(Refusal {
+            reason: Reason::WordOutside,
             operand: 1,
             place,
-        };
+        });
     }
     if !are_finite(c) {
-        return Refusal {
-            number: 13,
+        return Err(Refusal {
+            reason: Reason::NotFinite,
             operand: 1,
             place,
-        };
+        });
     }
-    Refusal::NONE
+    Ok(())
 }
 
 // The first refusal of a term.
-fn check_terms(m: u64, cre: &[u64], ann: &[u64], re: &[f64], im: &[f64]) -> Refusal
+fn check_terms(m: u64, cre: &[u64], ann: &[u64], re: &[f64], im: &[f64]) -> Result<(), Refusal>
     requires { OneLength (length cre.now) ann.now re.now im.now }
     ensures { result ≡ first_refusal (term_at m cre.now ann.now (re.now ∷ im.now ∷ [])) (length cre.now) }
 {
@@ -91,12 +89,9 @@ fn check_terms(m: u64, cre: &[u64], ann: &[u64], re: &[f64], im: &[f64]) -> Refu
             re: re[i],
             im: im[i],
         };
-        let r = term_refusal(space, i as u64, cre[i], ann[i], c);
-        if r.number != 0 {
-            return r;
-        }
+        term_refusal(space, i as u64, cre[i], ann[i], c)?;
     }
-    Refusal::NONE
+    Ok(())
 }
 
 // The sum and one term: its coefficient, or the negation where its sign is minus, is added if it takes ket to bra.
@@ -123,9 +118,16 @@ fn add_term(sum: Complex64, c: Complex64, cre: u64, ann: u64, bra: u64, ket: u64
 
 // The sum in the caller's order, refused at the first term that makes it not finite. Only a term that changes just the modes
 // in which bra and ket differ can take ket to bra: most do not, and nothing else is asked of them.
-fn sum_terms(cre: &[u64], ann: &[u64], re: &[f64], im: &[f64], bra: u64, ket: u64) -> FloatElement
+fn sum_terms(
+    cre: &[u64],
+    ann: &[u64],
+    re: &[f64],
+    im: &[f64],
+    bra: u64,
+    ket: u64,
+) -> Result<Complex64, Refusal>
     requires { OneLength (length cre.now) ann.now re.now im.now }
-    ensures { told_by result ≡ summed bra ket cre.now ann.now (re.now ∷ im.now ∷ []) }
+    ensures { told_by complex_values result ≡ summed bra ket cre.now ann.now (re.now ∷ im.now ∷ []) }
 {
     let mut sum = Complex64::ZERO;
     for i in 0..cre.len() {
@@ -138,15 +140,15 @@ fn sum_terms(cre: &[u64], ann: &[u64], re: &[f64], im: &[f64], bra: u64, ket: u6
             };
             sum = add_term(sum, c, created, annihilated, bra, ket);
             if !are_finite(sum) {
-                return FloatElement::Refused(Refusal {
-                    number: 13,
+                return Err(Refusal {
+                    reason: Reason::NotFinite,
                     operand: 1,
                     place: i as u64,
                 });
             }
         }
     }
-    FloatElement::Complex(sum)
+    Ok(sum)
 }
 
 // The element at (bra, ket) of the terms {cre|ann} with complex coefficients: the lists are checked first, then the terms
@@ -159,25 +161,18 @@ pub fn mat_elem_complex(
     im: &[f64],
     bra: u64,
     ket: u64,
-) -> FloatElement
-    ensures { told_by result ≡ float_element m cre.now ann.now (re.now ∷ im.now ∷ []) bra ket }
+) -> Result<Complex64, Refusal>
+    ensures { told_by complex_values result ≡ float_element m cre.now ann.now (re.now ∷ im.now ∷ []) bra ket }
 {
     if !is_listed(m, cre, ann, re, im) {
-        return FloatElement::Refused(Refusal {
-            number: 1,
+        return Err(Refusal {
+            reason: Reason::Malformed,
             operand: 1,
             place: 0,
         });
     }
-    let terms = check_terms(m, cre, ann, re, im);
-    if terms.number != 0 {
-        return FloatElement::Refused(terms);
-    }
-    let space = ModeSpace { count: m };
-    let words = modes::words_refusal(space, bra, ket);
-    if words.number != 0 {
-        return FloatElement::Refused(words);
-    }
+    check_terms(m, cre, ann, re, im)?;
+    modes::words_refusal(ModeSpace { count: m }, bra, ket)?;
     sum_terms(cre, ann, re, im, bra, ket)
 }
 
@@ -190,12 +185,9 @@ pub fn mat_elem_real(
     coeff: &[f64],
     bra: u64,
     ket: u64,
-) -> FloatElement
-    ensures { told_by result ≡ float_element m cre.now ann.now (coeff.now ∷ []) bra ket }
+) -> Result<f64, Refusal>
+    ensures { told_by real_values result ≡ float_element m cre.now ann.now (coeff.now ∷ []) bra ket }
 {
-    match mat_elem_complex(m, cre, ann, coeff, coeff, bra, ket) {
-        FloatElement::Real(x) => FloatElement::Real(x),
-        FloatElement::Complex(z) => FloatElement::Real(z.re),
-        FloatElement::Refused(r) => FloatElement::Refused(r),
-    }
+    let z = mat_elem_complex(m, cre, ann, coeff, coeff, bra, ket)?;
+    Ok(z.re)
 }

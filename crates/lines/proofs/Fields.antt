@@ -1,8 +1,11 @@
 -- What is read of the fields of a line, one after the other.
-use mathlib.Core.Path.{◌≡◌, refl, sym, ap, ap₂, ◌∙◌}
-use mathlib.Core.Bool.{Bool, true, false, ◌&&◌, ◌||◌, and-true, and_assoc}
+use Rattle.std.specs.Prelude.{Some, None}
+use Rattle.std.proofs.lemmas.Option.{cond_some}
+use Rattle.decimals.proofs.Numbers.{cond_none}
+use mathlib.Core.Path.{◌≡◌, refl, sym, ap, ◌∙◌}
+use mathlib.Core.Bool.{Bool, true, false, ◌&&◌, ◌||◌, and-true, and-false, and_assoc}
 use mathlib.Core.List.{List, [], ◌∷◌, map}
-use Prim.Native.Nat.{ℕ, ◌+◌, ◌-◌, ◌≤◌}
+use Prim.Native.Nat.{ℕ, ◌+◌, ◌-◌, ◌≤◌, ◌<◌}
 use native.Mathlib.Omega.{arith}
 use lib.Dec.{eqb, ltb}
 use lib.IntN.{pos}
@@ -13,37 +16,44 @@ use Rattle.modes.proofs.Digits.{lt_or_ge}
 use mathlib.Core.Logic.{⊎_elim}
 use Rattle.products.proofs.Signs.{abs_signed}
 use Rattle.decimals.specs.Decimal.{read_on}
-use Rattle.decimals.specs.Numbers.{starts_well}
+use Rattle.decimals.specs.Numbers.{starts_well, is_number}
 use Rattle.decimals.specs.Ceiling.{up_to, number_in}
-use Rattle.decimals.specs.declared.Number.{Number}
-use Rattle.lines.specs.Grammar.{space, creates, annihilates, pieces, kind_of, is_ladder, ladder_of, all_ladders, is_minus, magnitude_of, coefficient_of}
+use Rattle.lines.specs.Grammar.{space, creates, annihilates, pieces, kind_of, mode_of, is_ladder, ladder_of, all_ladders, is_minus, magnitude_of, coefficient_of}
 use Rattle.lines.specs.Grammar.{is_line_of, line_from}
 use Rattle.lines.specs.Refusals.{all_below}
 use Rattle.lines.specs.Reading.{ladder_read, coefficient_read, ladders_read, line_read}
 use Rattle.lines.specs.declared.ReadLadder.{ReadLadder}
 use Rattle.lines.specs.declared.ReadLadders.{ReadLadders}
 use Rattle.lines.specs.declared.ReadCoefficient.{ReadCoefficient}
-use Rattle.lines.specs.declared.ReadLine.{ReadLine}
 
 -- ---- a ladder
 
-pub no_ladder : (l : List ℕ) → length l ≡ 0 → ◌≡◌ {A = ReadLadder} (record { good = false; annihilates = false; mode = 0 }) (ladder_read l)
-unfolding is_ladder ladder_of starts_well read_on
-no_ladder [] e = refl
-no_ladder (x ∷ l) e = absurd (omega arith)
+abbrev pub kind_good : List ℕ → Bool
+kind_good l = eqb (kind_of l) creates || eqb (kind_of l) annihilates
 
-pub ladder_read_is : (l : List ℕ) (n : Number) (k g : Bool) → n ≡ number_in (take (length l - 1) l) → k ≡ (eqb (kind_of l) creates || eqb (kind_of l) annihilates)
-    → g ≡ n.good && k → ◌≡◌ {A = ReadLadder} (record { good = g; annihilates = eqb (kind_of l) annihilates; mode = n.value }) (ladder_read l)
-unfolding is_ladder ladder_of
-ladder_read_is l n k g en ek eg =
-    let good : g ≡ is_ladder l = eg ∙ ap₂ (λ (x y : Bool). x && y) (ap (λ (z : Number). z.good) en) ek in
-    λ i. record { good = good i; annihilates = eqb (kind_of l) annihilates; mode = (en i).value }
+module _ (l : List ℕ) where
+  pub no_bytes : length l < 1 → None ≡ ladder_read l
+  unfolding is_ladder starts_well
+  no_bytes h = go l h
+    where
+      go : (k : List ℕ) → length k < 1 → None ≡ ladder_read k
+      go [] e = refl
+      go (x ∷ k) e = absurd (omega arith)
+
+  pub no_kind : kind_good l ≡ false → None ≡ ladder_read l
+  unfolding is_ladder
+  no_kind e = rw (e, and-false (is_number (mode_of l)))
+
+  pub no_mode : None ≡ number_in (mode_of l) → None ≡ ladder_read l
+  unfolding is_ladder
+  no_mode e = rw (cond_none (is_number (mode_of l)) _ e)
+
+  pub ladder_read_is : kind_good l ≡ true → (v : ℕ) → Some v ≡ number_in (mode_of l)
+      → Some (record { annihilates = eqb (kind_of l) annihilates; mode = v }) ≡ ladder_read l
+  unfolding is_ladder ladder_of
+  ladder_read_is k v e = let number = cond_some (is_number (mode_of l)) _ _ (sym e) in rw (number.0, k, number.1)
 
 -- ---- a coefficient
-
-pub minus_none : (l : List ℕ) → length l ≡ 0 → false ≡ is_minus l
-minus_none [] e = refl
-minus_none (x ∷ l) e = absurd (omega arith)
 
 pub minus_first : (l : List ℕ) → is_minus l ≡ true → 1 ≤ length l
 minus_first [] e = absurd (go e)
@@ -52,16 +62,22 @@ minus_first [] e = absurd (go e)
     go h = absurd (omega (arith, eqb-true 0 45 h))
 minus_first (x ∷ l) e = omega arith
 
-module _ (l : List ℕ) (n : Number) where
-  pub coefficient_minus : is_minus l ≡ true → n ≡ number_in (take (length l - 1) (drop 1 l))
-      → ◌≡◌ {A = ReadCoefficient} (record { good = n.good; minus = true; magnitude = n.value }) (coefficient_read l)
+module _ (l : List ℕ) where
+  pub after_minus : is_minus l ≡ true → take (length l - 1) (drop 1 l) ≡ magnitude_of l
   unfolding magnitude_of
-  coefficient_minus h e = rw (h, e, take_all (length l - 1) (drop 1 l) (omega (arith, length-drop 1 l)))
+  after_minus h = rw h (take_all (length l - 1) (drop 1 l) (omega (arith, length-drop 1 l)))
 
-  pub coefficient_plain : is_minus l ≡ false → n ≡ number_in l
-      → ◌≡◌ {A = ReadCoefficient} (record { good = n.good; minus = false; magnitude = n.value }) (coefficient_read l)
+  pub all_digits_of : is_minus l ≡ false → l ≡ magnitude_of l
   unfolding magnitude_of
-  coefficient_plain h e = rw (h, e)
+  all_digits_of h = rw h
+
+  module _ (digits : List ℕ) (e : digits ≡ magnitude_of l) where
+    pub no_magnitude : None ≡ number_in digits → None ≡ coefficient_read l
+    no_magnitude n = rw (← e, cond_none (is_number digits) _ n)
+
+    pub coefficient_read_is : (b : Bool) → is_minus l ≡ b → (v : ℕ) → Some v ≡ number_in digits
+        → Some (record { sign = record { 0 = b }; magnitude = v }) ≡ coefficient_read l
+    coefficient_read_is b s v n = let number = cond_some (is_number digits) _ _ (sym n) in rw (← e, number.0, s, number.1)
 
 -- ---- the ladders of a line
 
@@ -72,45 +88,63 @@ mode_below v m h =
 
 -- of the fields `all`, those in `left` are to come after x
 pub record Going (m : ℕ) (all left : List (List ℕ)) (x : ReadLadders) : Type 0 where
-  pub good : all_ladders all ≡ x.good && all_ladders left
+  pub good : all_ladders all ≡ all_ladders left
   pub inside : all_below m (map ladder_of all) ≡ x.inside && all_below m (map ladder_of left)
   pub count : length all ≡ x.count + length left
 
-pub going_starts : (m : ℕ) (all : List (List ℕ)) → Going m all all (record { good = true; inside = true; count = 0 })
-going_starts m all = record { good = refl; inside = refl; count = omega arith }
-
 module _ (m : ℕ) (few : m ≤ 64) (all left : List (List ℕ)) (x : ReadLadders) (g : Going m all left x) where
-  pub going_on : (field : List ℕ) (later : List (List ℕ)) → left ≡ field ∷ later → (y : ReadLadder) → y ≡ ladder_read field → (z : ReadLadders)
-      → z.good ≡ x.good && y.good → z.inside ≡ x.inside && ltb y.mode m → z.count ≡ x.count + 1 → Going m all later z
-  unfolding all_ladders all_below
-  going_on field later e y ey z eg ei ec =
-      let below : ltb (ladder_of field).mode m ≡ ltb y.mode m = sym (ap (λ (r : ReadLadder). ltb r.mode m) ey ∙ mode_below (ladder_of field).mode m few) in
-      record {
-        good =
-            g.good ∙ ap (λ (ls : List (List ℕ)). x.good && all_ladders ls) e
-            ∙ ap (λ (b : Bool). x.good && (b && all_ladders later)) (sym (ap (λ (r : ReadLadder). r.good) ey))
-            ∙ sym (and_assoc x.good y.good (all_ladders later)) ∙ ap (λ (b : Bool). b && all_ladders later) (sym eg);
-        inside =
-            g.inside ∙ ap (λ (ls : List (List ℕ)). x.inside && all_below m (map ladder_of ls)) e
-            ∙ ap (λ (b : Bool). x.inside && (b && all_below m (map ladder_of later))) below
-            ∙ sym (and_assoc x.inside (ltb y.mode m) (all_below m (map ladder_of later))) ∙ ap (λ (b : Bool). b && all_below m (map ladder_of later)) (sym ei);
-        count = omega (arith, g.count, ec, ap (λ (ls : List (List ℕ)). length ls) e);
-      }
+  module _ (field : List ℕ) (later : List (List ℕ)) (e : left ≡ field ∷ later) where
+    next_good : all_ladders all ≡ is_ladder field && all_ladders later
+    unfolding all_ladders
+    next_good = g.good ∙ ap all_ladders e
 
-  pub going_ends : left ≡ [] → x ≡ ladders_read m all
+    -- a ladder more
+    pub going_on : (y : ReadLadder) → Some y ≡ ladder_read field → (z : ReadLadders)
+        → z.inside ≡ x.inside && ltb y.mode m → z.count ≡ x.count + 1 → Going m all later z
+    unfolding all_below
+    going_on y ey z ei ec =
+        let read = cond_some (is_ladder field) _ _ (sym ey) in
+        let mode : up_to (ladder_of field).mode ≡ y.mode = ap (λ (r : ReadLadder). r.mode) read.1 in
+        let below : ltb (ladder_of field).mode m ≡ ltb y.mode m =
+        sym (mode_below (ladder_of field).mode m few) ∙ ap (λ (v : ℕ). ltb v m) mode in
+        record {
+          good = next_good ∙ ap (λ (b : Bool). b && all_ladders later) read.0;
+          inside =
+              g.inside ∙ ap (λ (ls : List (List ℕ)). x.inside && all_below m (map ladder_of ls)) e
+              ∙ ap (λ (b : Bool). x.inside && (b && all_below m (map ladder_of later))) below
+              ∙ sym (and_assoc x.inside (ltb y.mode m) (all_below m (map ladder_of later))) ∙ ap (λ (b : Bool). b && all_below m (map ladder_of later)) (sym ei);
+          count = omega (arith, g.count, ec, ap (λ (ls : List (List ℕ)). length ls) e);
+        }
+
+    -- a field that is no ladder
+    pub going_breaks : None ≡ ladder_read field → None ≡ ladders_read m all
+    going_breaks n = rw (next_good, cond_none (is_ladder field) _ n)
+
+  pub going_ends : left ≡ [] → Some x ≡ ladders_read m all
   unfolding all_ladders all_below
   going_ends e =
-      let good : x.good ≡ all_ladders all = sym (g.good ∙ ap (λ (ls : List (List ℕ)). x.good && all_ladders ls) e ∙ and-true x.good) in
+      let good : all_ladders all ≡ true = g.good ∙ ap all_ladders e in
       let inside : x.inside ≡ all_below m (map ladder_of all) =
       sym (g.inside ∙ ap (λ (ls : List (List ℕ)). x.inside && all_below m (map ladder_of ls)) e ∙ and-true x.inside) in
       let count : x.count ≡ length all = omega (arith, g.count, ap (λ (ls : List (List ℕ)). length ls) e) in
-      λ i. record { good = good i; inside = inside i; count = count i }
+      rw good (λ i. Some (record { inside = inside i; count = count i }))
 
 -- ---- the whole line
 
-pub line_read_is : (m : ℕ) (l first : List ℕ) (later : List (List ℕ)) → pieces space l ≡ first ∷ later → (c : ReadCoefficient) → c ≡ coefficient_read first
-    → (x : ReadLadders) → x ≡ ladders_read m later → (g : Bool) → g ≡ c.good && x.good
-    → ◌≡◌ {A = ReadLine} (record { good = g; inside = x.inside; ladders = x.count; magnitude = c.magnitude }) (line_read m l)
-unfolding is_line_of line_from coefficient_of
-line_read_is m l first later e c ec x ex g eg =
-    rw (e, eg, ec, ex, length-map later ladder_of, abs_signed (is_minus first) (pos (read_on 0 (magnitude_of first))))
+module _ (m : ℕ) (l first : List ℕ) (later : List (List ℕ)) (e : pieces space l ≡ first ∷ later) where
+  pub coefficient_breaks : None ≡ coefficient_read first → None ≡ line_read m l
+  unfolding is_line_of
+  coefficient_breaks n = rw (e, cond_none (is_number (magnitude_of first)) _ n)
+
+  pub ladders_break : (c : ReadCoefficient) → Some c ≡ coefficient_read first → None ≡ ladders_read m later → None ≡ line_read m l
+  unfolding is_line_of
+  ladders_break c ec n =
+      rw (e, (cond_some (is_number (magnitude_of first)) _ _ (sym ec)).0, cond_none (all_ladders later) _ n)
+
+  pub line_read_is : (c : ReadCoefficient) → Some c ≡ coefficient_read first → (x : ReadLadders) → Some x ≡ ladders_read m later
+      → Some (record { inside = x.inside; ladders = x.count; magnitude = c.magnitude }) ≡ line_read m l
+  unfolding is_line_of line_from coefficient_of
+  line_read_is c ec x ex =
+      let read = cond_some (is_number (magnitude_of first)) _ _ (sym ec) in
+      let found = cond_some (all_ladders later) _ _ (sym ex) in
+      rw (e, read.0, found.0, length-map later ladder_of, abs_signed (is_minus first) (pos (read_on 0 (magnitude_of first))), ← read.1, ← found.1)

@@ -63,6 +63,11 @@ pub rest_next : (b : ℕ) (l : List ℕ) (end : ℕ) → end < length l → rest
 unfolding rest
 rest_next b l end h = ap (rest b) (drop_next l end h)
 
+-- a field after the byte at `at`, up to `end`, and the fields after it
+pub next_field : (b : ℕ) (l : List ℕ) (at end : ℕ) → at < length l → end ≡ (at + 1) + length (front b (drop (at + 1) l))
+    → rest b (drop at l) ≡ take (end - (at + 1)) (drop (at + 1) l) ∷ rest b (drop end l)
+next_field b l at end h e = rest_next b l at h ∙ pieces_from_is b l (at + 1) end e
+
 pub rest_none : (b : ℕ) (l : List ℕ) (end : ℕ) → length l ≤ end → rest b (drop end l) ≡ []
 unfolding rest
 rest_none b l end h = ap (rest b) (drop_of_length-le l h)
@@ -89,8 +94,8 @@ module _ (b : ℕ) (l : List ℕ) (at end : ℕ) (g : Looking b l at end) where
       let first : length (front b (drop end l)) ≡ 0 = ap (λ (k : List ℕ). length (front b k)) (drop_next l end h) ∙ rw (eq-eqb (get_or l end 0) b e) in
       (omega (arith, first, g.far), g.inside)
 
-  pub looking_ends : length l ≤ end → (end ≡ at + length (front b (drop at l))) × (end ≤ length l)
+  pub looking_ends : length l ≤ end → (length l ≡ at + length (front b (drop at l))) × (length l ≤ length l)
   unfolding front
   looking_ends h =
       let none : length (front b (drop end l)) ≡ 0 = ap (λ (k : List ℕ). length (front b k)) (drop_of_length-le l h) in
-      (omega (arith, none, g.far), g.inside)
+      (omega (arith, none, g.far, g.inside), omega arith)

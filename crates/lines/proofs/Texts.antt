@@ -6,6 +6,8 @@ use native.Mathlib.Omega.{arith}
 use lib.ListN.{length, take, drop, length-drop, drop_of_length-le}
 use lib.Seq.{length-take-le}
 use borrow.Author.Tests.{ne_eqb}
+use Rattle.std.specs.Prelude.{Err}
+use Rattle.modes.specs.declared.Reason.TheVariants.{BadLine}
 use Rattle.modes.specs.Answers.{refusal, none}
 use Rattle.modes.specs.Refusals.{or_else}
 use Rattle.lines.specs.Grammar.{Line, line_feed, pieces, line_of, ended}
@@ -35,7 +37,7 @@ module _ (text : List ℕ) (at end : ℕ) (e : end ≡ at + length (front line_f
   line_at = take (end - at) (drop at text)
 
   -- the last line feed is missing
-  pub last_refused : at < length text → end ≡ length text → (m i : ℕ) → lines_refusal m i (pieces_from text at) ≡ refusal 16 0 i
+  pub last_refused : at < length text → end ≡ length text → (m i : ℕ) → lines_refusal m i (pieces_from text at) ≡ Err (refusal BadLine 0 i)
   unfolding lines_refusal
   last_refused h k m i =
       let long : length line_at ≡ end - at = length-take-le (end - at) (drop at text) (omega (arith, length-drop at text)) in

@@ -1,4 +1,5 @@
 -- No two answers meet a promise of this crate.
+use Rattle.std.specs.Prelude.{Option}
 use mathlib.Core.Path.{◌≡◌}
 use mathlib.Core.List.{List}
 use Prim.Native.Nat.{ℕ, ◌+◌, ◌≤◌}
@@ -14,11 +15,11 @@ module _ (l : List ℕ) where
       → (s ≡ at + length (front mark (drop at l))) × (s ≤ length l) → r ≡ s
   one_end at mark r s p q = one p.0 q.0
 
-  pub one_ladder : (r s : ReadLadder) → r ≡ ladder_read l → s ≡ ladder_read l → r ≡ s
+  pub one_ladder : (r s : Option ReadLadder) → r ≡ ladder_read l → s ≡ ladder_read l → r ≡ s
   one_ladder r s = one
 
-  pub one_coefficient : (r s : ReadCoefficient) → r ≡ coefficient_read l → s ≡ coefficient_read l → r ≡ s
+  pub one_coefficient : (r s : Option ReadCoefficient) → r ≡ coefficient_read l → s ≡ coefficient_read l → r ≡ s
   one_coefficient r s = one
 
-  pub one_line : (m : ℕ) (r s : ReadLine) → r ≡ line_read m l → s ≡ line_read m l → r ≡ s
+  pub one_line : (m : ℕ) (r s : Option ReadLine) → r ≡ line_read m l → s ≡ line_read m l → r ≡ s
   one_line m r s = one

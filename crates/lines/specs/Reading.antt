@@ -1,5 +1,5 @@
 -- What is read of a field and of a line, numbers as far as one above 2^60. For inner functions only.
-use Rattle.std.specs.Prelude.{cond, List, [], ◌∷◌, map, ℕ, eqb, nat_abs, length}
+use Rattle.std.specs.Prelude.{cond, List, [], ◌∷◌, map, ℕ, eqb, nat_abs, Option, Some, None, length}
 use Rattle.decimals.specs.Decimal.{read_on}
 use Rattle.decimals.specs.Numbers.{is_number}
 use Rattle.decimals.specs.Ceiling.{up_to}
@@ -20,19 +20,21 @@ unfoldable pub rest : ℕ → List ℕ → List (List ℕ)
 rest b [] = []
 rest b (x ∷ l) = pieces b l
 
-abbrev pub ladder_read : List ℕ → ReadLadder
-ladder_read l = record { good = is_ladder l; annihilates = (ladder_of l).needs; mode = up_to (ladder_of l).mode }
+-- a ladder, where the field is one
+abbrev pub ladder_read : List ℕ → Option ReadLadder
+ladder_read l = cond (is_ladder l) (Some (record { annihilates = (ladder_of l).needs; mode = up_to (ladder_of l).mode })) None
 
-abbrev pub coefficient_read : List ℕ → ReadCoefficient
-coefficient_read l = record { good = is_number (magnitude_of l); minus = is_minus l; magnitude = up_to (read_on 0 (magnitude_of l)) }
+-- a coefficient, where the field is one
+abbrev pub coefficient_read : List ℕ → Option ReadCoefficient
+coefficient_read l =
+    cond (is_number (magnitude_of l)) (Some (record { sign = record { 0 = is_minus l }; magnitude = up_to (read_on 0 (magnitude_of l)) })) None
 
-abbrev pub ladders_read : ℕ → List (List ℕ) → ReadLadders
-ladders_read m ls = record { good = all_ladders ls; inside = all_below m (map ladder_of ls); count = length ls }
+-- the ladders of a line, where all fields are ladders
+abbrev pub ladders_read : ℕ → List (List ℕ) → Option ReadLadders
+ladders_read m ls = cond (all_ladders ls) (Some (record { inside = all_below m (map ladder_of ls); count = length ls })) None
 
-abbrev pub line_read : ℕ → List ℕ → ReadLine
-line_read m l = record {
-  good = is_line l;
-  inside = all_below m (line_of l).ladders;
-  ladders = length (line_of l).ladders;
-  magnitude = up_to (nat_abs (line_of l).coeff);
-}
+-- a line, where the bytes are one
+abbrev pub line_read : ℕ → List ℕ → Option ReadLine
+line_read m l =
+    cond (is_line l)
+    (Some (record { inside = all_below m (line_of l).ladders; ladders = length (line_of l).ladders; magnitude = up_to (nat_abs (line_of l).coeff) })) None

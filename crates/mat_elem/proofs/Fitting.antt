@@ -10,6 +10,7 @@ use lib.IntN.{ℤ, pos, nat_abs}
 use lib.ListN.{length, get_or, replicate, length-append, length-map, length-replicate}
 use mir.Syntax.{w64}
 use mir.Val.{SFits}
+use Rattle.std.specs.Prelude.{Ok}
 use Rattle.record.specs.Operands.{read_as}
 use Rattle.modes.specs.Sums.{sum_of}
 use Rattle.modes.specs.declared.Term.{Term}
@@ -20,9 +21,10 @@ use Rattle.products.proofs.Signs.{abs_signed}
 use Rattle.record.specs.Terms.{weight}
 use Rattle.record.specs.Layout.{modes_of, terms_of}
 use Rattle.record.specs.Refusals.{refusal_of}
-use Rattle.modes.proofs.Refusals.{neither, either_way}
+use Rattle.modes.proofs.Refusals.{neither, not_refused}
 use Rattle.record.proofs.Accepted.{accepted_canonical}
-use Rattle.mat_elem.specs.Matrix.{EightNumbers, EightRows, up_to_eight, row_of, zero_row, matrix_of, basis_refusal, refused_matrix, projected_refusal, projected_of}
+use Rattle.mat_elem.specs.declared.Row.{Row}
+use Rattle.mat_elem.specs.Matrix.{EightNumbers, EightRows, up_to_eight, row_of, zero_row, matrix_of, basis_refusal, projected_refusal, projected_of}
 use Rattle.mat_elem.proofs.Projecting.{basis_short}
 
 -- ---- an element is within the weight
@@ -89,14 +91,8 @@ module _ (ts : List Term) (light : weight ts ≤ 2 ^ 60) (basis : List ℕ) (few
         each = λ i h. each_eight (row_of ts basis) zero_row EightNumbers row_numbers zero_numbers basis few i _ h;
       }
 
-zero_rows : EightRows (replicate 8 zero_row)
-zero_rows =
-    record { count = refl; each = λ i h. each_replicate (λ x. zero_row) zero_row EightNumbers (λ x. zero_numbers) zero_numbers 8 i _ h }
-
-pub projected_rows : (a basis : List ℕ) → EightRows (projected_of (read_as 1 a) basis).rows
-projected_rows a basis =
-    either_way (projected_refusal (read_as 1 a) basis) refused_matrix _ (λ p. EightRows p.rows)
-    (λ z.
-    let both = neither (refusal_of 1 a) (basis_refusal (modes_of a) basis) z in
-    matrix_rows (terms_of a) (accepted_canonical 1 a both.0).light basis (basis_short (modes_of a) basis both.1))
-    (λ h. zero_rows)
+pub projected_rows : (a basis : List ℕ) (rows : List Row) → Ok rows ≡ projected_of (read_as 1 a) basis → EightRows rows
+projected_rows a basis rows e =
+    let found = not_refused (matrix_of (terms_of a) basis) (projected_refusal (read_as 1 a) basis) rows e in
+    let both = neither (refusal_of 1 a) (basis_refusal (modes_of a) basis) found.0 in
+    rw found.1 (matrix_rows (terms_of a) (accepted_canonical 1 a both.0).light basis (basis_short (modes_of a) basis both.1))

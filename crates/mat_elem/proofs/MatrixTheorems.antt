@@ -1,5 +1,5 @@
 -- What a projected matrix that is not refused holds: at two words of the basis what `element` answers there, and 0 elsewhere.
-use mathlib.Core.Path.{◌≡◌, refl, sym, ap, ◌∙◌}
+use mathlib.Core.Path.{◌≡◌, refl, ap, ◌∙◌}
 use mathlib.Core.Bool.{true}
 use mathlib.Core.List.{List, [], ◌∷◌, ◌++◌, map}
 use mathlib.Core.Logic.{◌⊎◌, inl, inr}
@@ -8,6 +8,7 @@ use native.Mathlib.Omega.{arith}
 use lib.Dec.{ltb}
 use lib.IntN.{pos}
 use lib.ListN.{length, get_or, replicate}
+use Rattle.std.specs.Prelude.{Ok}
 use Rattle.record.specs.Operands.{read_as}
 use Rattle.modes.specs.Answers.{none}
 use Rattle.modes.specs.declared.Term.{Term}
@@ -17,11 +18,9 @@ use Rattle.record.specs.Layout.{modes_of, terms_of}
 use Rattle.modes.specs.Refusals.{or_else, unless}
 use Rattle.record.specs.Refusals.{refusal_of}
 use Rattle.modes.proofs.Refusals.{neither, not_refused}
-use Rattle.record.proofs.Accepted.{accepted_none}
 use Rattle.mat_elem.specs.Elements.{element_of}
-use Rattle.mat_elem.specs.Matrix.{outside_at, basis_refusal, row_of, zero_row, matrix_of, entry_at, refused_matrix, projected_refusal, projected_of}
+use Rattle.mat_elem.specs.Matrix.{outside_at, basis_refusal, row_of, zero_row, matrix_of, entry_at, projected_refusal, projected_of}
 use Rattle.mat_elem.specs.declared.Row.{Row}
-use Rattle.mat_elem.specs.declared.Projected.{Projected}
 use Rattle.modes.proofs.Spaces.{word_inside}
 use Rattle.modes.proofs.FirstRefusals.{first_none}
 
@@ -65,17 +64,14 @@ module _ (ts : List Term) (basis : List ℕ) where
 
 -- ---- a basis that is not refused
 
-module _ (a basis : List ℕ) (r : Projected) (e : r ≡ projected_of (read_as 1 a) basis) (ok : r.refusal.number ≡ 0) where
-  found : ((projected_refusal (read_as 1 a) basis).number ≡ 0) × (r ≡ record { refusal = none; rows = matrix_of (terms_of a) basis })
-  found = not_refused (projected_refusal (read_as 1 a) basis) refused_matrix _ (λ p. p.refusal) refl r e ok
+module _ (a basis : List ℕ) (rows : List Row) (e : Ok rows ≡ projected_of (read_as 1 a) basis) where
+  found : (projected_refusal (read_as 1 a) basis ≡ none) × (rows ≡ matrix_of (terms_of a) basis)
+  found = not_refused (matrix_of (terms_of a) basis) (projected_refusal (read_as 1 a) basis) rows e
 
-  rows : r.rows ≡ matrix_of (terms_of a) basis
-  rows = ap (λ (x : Projected). x.rows) found.1
-
-  accepted : (refusal_of 1 a).number ≡ 0
+  accepted : refusal_of 1 a ≡ none
   accepted = (neither _ _ found.0).0
 
-  basis_fine : (basis_refusal (modes_of a) basis).number ≡ 0
+  basis_fine : basis_refusal (modes_of a) basis ≡ none
   basis_fine = (neither _ _ found.0).1
 
   inside : (i : ℕ) → i < length basis → ltb (get_or basis i 0) (2 ^ modes_of a) ≡ true
@@ -86,15 +82,14 @@ module _ (a basis : List ℕ) (r : Projected) (e : r ≡ projected_of (read_as 1
 
   -- at two basis words the entry is what `element` answers at this bra and ket
   pub entry_is : (i j : ℕ) → i < length basis → j < length basis
-      → element_of (read_as 1 a) (get_or basis i 0) (get_or basis j 0) ≡ record { refusal = none; value = entry_at r.rows i j }
+      → element_of (read_as 1 a) (get_or basis i 0) (get_or basis j 0) ≡ Ok (entry_at rows i j)
   unfolding or_else unless
   entry_is i j h k =
-      rw (accepted_none 1 a accepted, inside i h, inside j k)
-      (λ t. record { refusal = none; value = (sym (used_entry (terms_of a) basis i j h k) ∙ ap (λ (x : List Row). entry_at x i j) (sym rows)) t })
+      rw (accepted, inside i h, inside j k, found.1, used_entry (terms_of a) basis i j h k)
 
   -- all others are 0
-  pub unused_zero : (i j : ℕ) → (length basis ≤ i) ⊎ (length basis ≤ j) → entry_at r.rows i j ≡ pos 0
-  unused_zero i j d = ap (λ (x : List Row). entry_at x i j) rows ∙ go d (lt_or_ge i (length basis))
+  pub unused_zero : (i j : ℕ) → (length basis ≤ i) ⊎ (length basis ≤ j) → entry_at rows i j ≡ pos 0
+  unused_zero i j d = ap (λ (x : List Row). entry_at x i j) found.1 ∙ go d (lt_or_ge i (length basis))
     where
       go : (length basis ≤ i) ⊎ (length basis ≤ j) → (i < length basis) ⊎ (length basis ≤ i) → entry_at (matrix_of (terms_of a) basis) i j ≡ pos 0
       go c (inr h) = unused_row (terms_of a) basis i j h

@@ -2,53 +2,54 @@
 use mathlib.Core.Path.{◌≡◌, sym, ap, ◌∙◌}
 use mathlib.Core.List.{List}
 use Prim.Native.Nat.{ℕ, ◌≤◌}
-use native.Mathlib.Omega.{arith}
 use lib.Dec.{leb}
 use lib.ListN.{length}
 use borrow.Author.Tests.{leb-true}
+use Rattle.std.specs.Prelude.{Result, Ok, Err}
 use Rattle.record.specs.Operands.{read_as}
-use Rattle.modes.specs.Answers.{refusal, none}
+use Rattle.modes.specs.Answers.{Verdict, refusal, none}
+use Rattle.modes.specs.declared.Reason.TheVariants.{BadBasis}
 use Rattle.modes.specs.declared.Refusal.{Refusal}
 use Rattle.modes.specs.declared.Term.{Term}
-use Rattle.record.specs.Layout.{terms_in, terms_of, modes_of}
+use Rattle.record.specs.Layout.{terms_in, modes_of}
 use Rattle.record.specs.Refusals.{refusal_of, checked_of}
 use Rattle.record.specs.declared.Checked.{Checked}
 use Rattle.modes.proofs.Refusals.{neither, second_refuses, neither_refuses, first_refuses, needed}
-use Rattle.record.proofs.Accepted.{Accepted, accepted, refused, refusal_told}
+use Rattle.record.proofs.Accepted.{Accepted, accepted, refused}
 use Rattle.record.specs.Reading.{Sound}
-use Rattle.mat_elem.specs.Matrix.{basis_refusal, matrix_of, refused_matrix, projected_of}
-use Rattle.mat_elem.specs.declared.Projected.{Projected}
+use Rattle.mat_elem.specs.Matrix.{basis_refusal, matrix_of, projected_of}
+use Rattle.mat_elem.specs.declared.Row.{Row}
 
 -- ---- the basis
 
 module _ (m : ℕ) (basis : List ℕ) where
   -- a basis that is not refused is short
-  pub basis_short : (basis_refusal m basis).number ≡ 0 → length basis ≤ 8
+  pub basis_short : basis_refusal m basis ≡ none → length basis ≤ 8
   unfolding basis_refusal
-  basis_short z = leb-true _ _ (needed (leb (length basis) 8) (refusal 14 3 0) (λ e. absurd (omega arith)) (neither _ _ z).0)
+  basis_short z = leb-true _ _ (needed (leb (length basis) 8) (refusal BadBasis 3 0) (neither _ _ z).0)
 
 -- ---- the call
 
-module _ (a basis : List ℕ) (c : Checked) (e : c ≡ checked_of 1 a) where
-  pub operator_refused : (c.refusal.number ≡ 0 → ⊥) → refused_matrix c.refusal ≡ projected_of (read_as 1 a) basis
-  operator_refused n = rw (refusal_told 1 a c e) (first_refuses (refusal_of 1 a) _ refused_matrix _ (refused 1 a c e n))
+module _ (a basis : List ℕ) where
+  pub operator_refused : (r : Refusal) → Err r ≡ checked_of 1 a → Err r ≡ projected_of (read_as 1 a) basis
+  operator_refused r e = first_refuses (refusal_of 1 a) _ Err _ r (refused 1 a r e)
 
-  module _ (z : c.refusal.number ≡ 0) (r : Refusal) (f : r ≡ basis_refusal c.modes basis) where
+  module _ (c : Checked) (e : Ok c ≡ checked_of 1 a) where
     ok : Accepted 1 a c
-    ok = accepted 1 a c e z
+    ok = accepted 1 a c e
 
-    of_basis : r ≡ basis_refusal (modes_of a) basis
-    of_basis = f ∙ ap (λ (d : Checked). basis_refusal d.modes basis) ok.is
+    of_basis : (v : Verdict) → v ≡ basis_refusal c.modes basis → basis_refusal (modes_of a) basis ≡ v
+    of_basis v f = sym (f ∙ ap (λ (d : Checked). basis_refusal d.modes basis) ok.is)
 
-    pub basis_refused : (r.number ≡ 0 → ⊥) → refused_matrix r ≡ projected_of (read_as 1 a) basis
-    basis_refused n = rw of_basis (second_refuses (refusal_of 1 a) _ refused_matrix _ ok.number (rw of_basis at n))
+    pub basis_refused : (r : Refusal) → Err r ≡ basis_refusal c.modes basis → Err r ≡ projected_of (read_as 1 a) basis
+    basis_refused r f = second_refuses (refusal_of 1 a) _ Err _ ok.fine r (of_basis (Err r) f)
 
-    module _ (y : r.number ≡ 0) where
+    module _ (f : none ≡ basis_refusal c.modes basis) where
       pub to_project : Sound a c.terms × (length basis ≤ 8)
-      to_project =
-          (ok.held, basis_short c.modes basis (ap (λ (x : Refusal). x.number) (sym f) ∙ y))
+      to_project = (ok.held, basis_short c.modes basis (sym f))
 
-      pub projected : (p : Projected) → (p.refusal ≡ none) × (p.rows ≡ matrix_of (terms_in a c.terms) basis) → p ≡ projected_of (read_as 1 a) basis
-      projected p g =
-          let rows : p.rows ≡ matrix_of (terms_of a) basis = g.1 ∙ ap (λ (ts : List Term). matrix_of ts basis) ok.terms in
-          (λ i. record { refusal = g.0 i; rows = rows i }) ∙ neither_refuses (refusal_of 1 a) _ refused_matrix _ ok.number (rw of_basis at y)
+      pub projected : (rows : List Row) → rows ≡ matrix_of (terms_in a c.terms) basis
+          → ◌≡◌ {A = Result (List Row) Refusal} (Ok rows) (projected_of (read_as 1 a) basis)
+      projected rows g =
+          ap Ok (g ∙ ap (λ (ts : List Term). matrix_of ts basis) ok.terms)
+          ∙ neither_refuses (refusal_of 1 a) _ Err _ ok.fine (of_basis none f)

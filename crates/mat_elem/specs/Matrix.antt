@@ -1,19 +1,19 @@
 -- The projected matrix of a record on a basis of up to eight words: row the bra, column the ket.
-use Rattle.std.specs.Prelude.{◌≡◌, Bool, false, not, ◌||◌, List, [], ◌∷◌, ◌++◌, map, ℕ, ◌-◌, ◌<◌, eqb, leb, ℤ, pos, length, get_or, take, replicate}
+use Rattle.std.specs.Prelude.{◌≡◌, Bool, false, not, ◌||◌, List, [], ◌∷◌, ◌++◌, map, ℕ, ◌-◌, ◌<◌, eqb, leb, ℤ, pos, length, get_or, take, replicate, Result}
 use Rattle.std.specs.Int.{w64}
 use Rattle.std.proofs.Common.{SFits}
-use Rattle.modes.specs.Answers.{refusal, none}
+use Rattle.modes.specs.Answers.{Verdict, refusal}
+use Rattle.modes.specs.declared.Reason.TheVariants.{BadBasis}
 use Rattle.modes.specs.declared.Refusal.{Refusal}
 use Rattle.modes.specs.declared.Term.{Term}
 use Rattle.products.specs.Operators.{element}
-use Rattle.modes.specs.Refusals.{need, or_else, first_refusal, unless}
+use Rattle.modes.specs.Refusals.{need, or_else, first_refusal, answered}
 use Rattle.record.specs.Operands.{Operand}
 use Rattle.modes.specs.Spaces.{word_refusal}
 use Rattle.mat_elem.specs.declared.Row.{Row}
-use Rattle.mat_elem.specs.declared.Projected.{Projected}
 
 -- 12 of the basis word at index i
-abbrev pub outside_at : ℕ → List ℕ → ℕ → Refusal
+abbrev pub outside_at : ℕ → List ℕ → ℕ → Verdict
 outside_at m basis i = word_refusal m 3 i (get_or basis i 0)
 
 -- does the word stand among ws
@@ -22,13 +22,13 @@ stands w [] = false
 stands w (x ∷ ws) = eqb x w || stands w ws
 
 -- 14 of the basis word at index i, where it stands earlier too
-abbrev pub repeat_at : List ℕ → ℕ → Refusal
-repeat_at basis i = need (not (stands (get_or basis i 0) (take i basis))) (refusal 14 3 i)
+abbrev pub repeat_at : List ℕ → ℕ → Verdict
+repeat_at basis i = need (not (stands (get_or basis i 0) (take i basis))) (refusal BadBasis 3 i)
 
 -- the length, then 12 in order, then repeats
-unfoldable pub basis_refusal : ℕ → List ℕ → Refusal
+unfoldable pub basis_refusal : ℕ → List ℕ → Verdict
 basis_refusal m basis =
-    or_else (need (leb (length basis) 8) (refusal 14 3 0))
+    or_else (need (leb (length basis) 8) (refusal BadBasis 3 0))
     (or_else (first_refusal (outside_at m basis) (length basis)) (first_refusal (repeat_at basis) (length basis)))
 
 -- the values of f for the basis words, and z up to eight
@@ -49,16 +49,12 @@ matrix_of ts basis = up_to_eight (row_of ts basis) zero_row basis
 abbrev pub entry_at : List Row → ℕ → ℕ → ℤ
 entry_at rows i j = get_or (get_or rows i zero_row).entries j (pos 0)
 
-abbrev pub refused_matrix : Refusal → Projected
-refused_matrix r = record { refusal = r; rows = replicate 8 zero_row }
-
 -- the operator's refusals, then the basis's
-abbrev pub projected_refusal : Operand → List ℕ → Refusal
+abbrev pub projected_refusal : Operand → List ℕ → Verdict
 projected_refusal a basis = or_else a.refusal (basis_refusal a.modes basis)
 
-abbrev pub projected_of : Operand → List ℕ → Projected
-projected_of a basis =
-    let found : Projected = record { refusal = none; rows = matrix_of a.terms basis } in unless (projected_refusal a basis) refused_matrix found
+abbrev pub projected_of : Operand → List ℕ → Result (List Row) Refusal
+projected_of a basis = answered (projected_refusal a basis) (matrix_of a.terms basis)
 
 -- what the type of a matrix says: eight rows of eight signed numbers of 64 bits
 pub record EightNumbers (r : Row) : Type 0 where

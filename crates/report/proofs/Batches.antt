@@ -5,11 +5,11 @@ use mathlib.Core.List.{List, [], ◌∷◌}
 use Prim.Native.Nat.{ℕ, suc, ◌+◌, ◌*◌, ◌/◌, ◌%◌, ◌^◌, ◌≤◌, ◌<◌, max}
 use native.Mathlib.Nat.{mod-lt, mod-add-mod, mul-add-div, div-add-mod, div-le_of_le-mul, add_comm, mul-suc}
 use native.Mathlib.Omega.{arith}
-use lib.Dec.{eqb}
 use lib.ListN.{length}
-use borrow.Author.Tests.{eqb-true}
 use Rattle.modes.specs.Sums.{sum_by, amount_of}
-use Rattle.modes.specs.Answers.{none}
+use Rattle.std.specs.Prelude.{Ok, Err, is_ok}
+use Rattle.modes.specs.Answers.{Verdict, none}
+use Rattle.record.specs.Refusals.{refusal_of}
 use Rattle.modes.specs.Refusals.{unless}
 use Rattle.modes.proofs.Refusals.{unless_not}
 use Rattle.record.specs.Terms.{weight}
@@ -73,13 +73,17 @@ at_most f k h (b ∷ bs) = go (is_accepted b) (h b) (at_most f k h bs)
     go true here rest = omega (arith, here refl, mul-suc k (length bs))
     go false here rest = omega (arith, mul-suc k (length bs))
 
+ok_is_none : (v : Verdict) → is_ok v ≡ true → v ≡ none
+ok_is_none (Ok x) e = refl
+ok_is_none (Err r) e = cc
+
 -- the figures of fewer than 1,024 leave the report open
 module _ (bs : List (List ℕ)) (few : length bs < 1024) where
   terms_few : (b : List ℕ) → is_accepted b ≡ true → length (terms_of b) ≤ 2048
-  terms_few b e = (accepted_canonical 1 b (eqb-true _ _ e)).few
+  terms_few b e = (accepted_canonical 1 b (ok_is_none _ e)).few
 
   weight_light : (b : List ℕ) → is_accepted b ≡ true → weight (terms_of b) ≤ 2 ^ 60
-  weight_light b e = (accepted_canonical 1 b (eqb-true _ _ e)).light
+  weight_light b e = (accepted_canonical 1 b (ok_is_none _ e)).light
 
   limited_by : (f g : List ℕ → ℕ) → ((b : List ℕ) → is_accepted b ≡ true → f b ≤ 2048) → ((b : List ℕ) → is_accepted b ≡ true → g b ≤ 2 ^ 60)
       → Limited (share_of (amount_of f (accepted_of bs)) (amount_of g (accepted_of bs)))
@@ -100,10 +104,10 @@ module _ (bs : List (List ℕ)) (few : length bs < 1024) where
 -- counting respects agreement
 with_agree : (a : Operand) (p q : Report) → Agree p q → Agree (with_record a p) (with_record a q)
 unfolding unless
-with_agree a p q g = go (eqb a.refusal.number 0) refl
+with_agree a p q g = go a.refusal refl
   where
-    go : (b : Bool) → eqb a.refusal.number 0 ≡ b → Agree (with_record a p) (with_record a q)
-    go true e =
+    go : (v : Verdict) → a.refusal ≡ v → Agree (with_record a p) (with_record a q)
+    go (Ok x) e =
         rw e (record {
           accepted = ap (λ (x : ℕ). x + 1) g.accepted;
           refused = g.refused;
@@ -111,7 +115,7 @@ with_agree a p q g = go (eqb a.refusal.number 0) refl
           largest = ap (λ (x : ℕ). max x (weight a.terms)) g.largest;
           rank = λ r h. ap (grow _ _) (g.rank r h);
         })
-    go false e = rw e (record { accepted = g.accepted; refused = ap (λ (x : ℕ). x + 1) g.refused; total = g.total; largest = g.largest; rank = g.rank })
+    go (Err r) e = rw e (record { accepted = g.accepted; refused = ap (λ (x : ℕ). x + 1) g.refused; total = g.total; largest = g.largest; rank = g.rank })
 
 open_agree : (p q : Report) → Agree p q → Open q → Open p
 open_agree p q g o =
@@ -135,10 +139,10 @@ one_more p a o = rw (numbers_open p o) (unless_not none _ _ refl ∙ same_number
 -- one byte string more
 pub with_one : (b : List ℕ) (bs : List (List ℕ)) → Agree (with_record (read_as 1 b) (figures_over bs)) (figures_over (b ∷ bs))
 unfolding chosen sum_by unless
-with_one b bs = go (is_accepted b) refl
+with_one b bs = go (refusal_of 1 b) refl
   where
-    go : (x : Bool) → is_accepted b ≡ x → Agree (with_record (read_as 1 b) (figures_over bs)) (figures_over (b ∷ bs))
-    go true e =
+    go : (v : Verdict) → refusal_of 1 b ≡ v → Agree (with_record (read_as 1 b) (figures_over bs)) (figures_over (b ∷ bs))
+    go (Ok x) e =
         rw e (record {
           accepted = omega arith;
           refused = refl;
@@ -146,4 +150,4 @@ with_one b bs = go (is_accepted b) refl
           largest = omega arith;
           rank = λ r h. share_grows _ _ _ _;
         })
-    go false e = rw e (record { accepted = refl; refused = omega arith; total = refl; largest = refl; rank = λ r h. refl })
+    go (Err r) e = rw e (record { accepted = refl; refused = omega arith; total = refl; largest = refl; rank = λ r h. refl })

@@ -1,15 +1,16 @@
 -- What a call leaves: a report that is refused, a refused record counted, and an accepted one.
 use mathlib.Core.Path.{◌≡◌, refl, sym, ap, ◌∙◌}
-use mathlib.Core.Bool.{Bool, true, false}
+use mathlib.Core.Bool.{true, false}
 use mathlib.Core.List.{List}
 use Prim.Native.Nat.{ℕ, ◌+◌, ◌*◌}
 use native.Mathlib.Omega.{arith}
-use lib.Dec.{eqb}
 use lib.ListN.{length, get_or, set, length-set}
 use lib.Seq.{get_or-set_same, get_or-set_other}
-use borrow.Author.Tests.{eq-eqb, ne_eqb}
 use Rattle.modes.specs.declared.Refusal.{Refusal}
-use Rattle.modes.specs.Answers.{refusal, none}
+use Rattle.std.specs.Prelude.{Ok, Err}
+use Rattle.modes.specs.declared.Reason.TheVariants.{BadReport}
+use Rattle.modes.specs.Answers.{Verdict, refusal, none}
+use Rattle.modes.specs.Refusals.{unless}
 use Rattle.modes.proofs.Refusals.{unless_so, unless_not}
 use Rattle.record.specs.Terms.{weight}
 use Rattle.record.specs.Layout.{terms_of, count_of}
@@ -24,18 +25,14 @@ use Rattle.tally.specs.Ranks.{of_rank}
 use Rattle.tally.specs.Tallies.{Tallied, Tallies}
 use Rattle.tally.proofs.Ranks as ranks
 use Rattle.report.specs.Steps.{Light, Countable, AcceptedIn}
-use Rattle.report.specs.declared.Counted.{Counted}
 use Rattle.report.proofs.Growing.{share_set}
 use Rattle.report.proofs.Numbers.{Agree, numbers_of_is}
 
 -- ---- 15
 
-pub not_taken : (l : List ℕ) (a : Operand) → is_open (report_in l) ≡ false → Counts l a (record { refusal = refusal 15 0 0; accepted = false; own = none }) l
-not_taken l a e =
-    record {
-      answer = rw e (sym (unless_so (refusal 15 0 0) _ _ (λ z. absurd (omega arith))));
-      numbers = rw e (sym (unless_so (refusal 15 0 0) (λ _. l) _ (λ z. absurd (omega arith))));
-    }
+pub not_taken : (l : List ℕ) (a : Operand) → is_open (report_in l) ≡ false → Counts l a (Err (refusal BadReport 0 0)) l
+unfolding unless
+not_taken l a e = record { answer = rw e; numbers = rw e }
 
 -- ---- a report that is taken
 
@@ -43,18 +40,15 @@ module _ (l : List ℕ) (a : Operand) (e : is_open (report_in l) ≡ true) where
   taken : (k : List ℕ) → k ≡ numbers_of (with_record a (report_in l)) → k ≡ report_after l a
   taken k q = q ∙ rw e (sym (unless_not none (λ _. l) _ refl))
 
-  told : (b : Bool) (own : Refusal) → eqb a.refusal.number 0 ≡ b → own ≡ a.refusal
-      → ◌≡◌ {A = Counted} (record { refusal = none; accepted = b; own = own }) (counted_of l a)
-  told b own q is = rw is (rw e (sym (unless_not none _ _ refl ∙ rw q)))
+  told : (own : Verdict) → own ≡ a.refusal → Ok own ≡ counted_of l a
+  told own is = rw is (rw e (sym (unless_not none Err (Ok a.refusal) refl)))
 
   -- a refused record
-  pub one_refused : length l ≡ 201 → (own : Refusal) → own ≡ a.refusal → (own.number ≡ 0 → ⊥)
-      → Counts l a (record { refusal = none; accepted = false; own = own }) (set l 1 (get_or l 1 0 + 1))
-  one_refused size own is n =
-      let no : a.refusal.number ≡ 0 → ⊥ = λ z. n (ap (λ (r : Refusal). r.number) is ∙ z) in
+  pub one_refused : length l ≡ 201 → (own : Refusal) → a.refusal ≡ Err own → Counts l a (Ok (Err own)) (set l 1 (get_or l 1 0 + 1))
+  one_refused size own is =
       record {
-        answer = told false own (ne_eqb _ _ no) is;
-        numbers = taken _ (numbers_of_is _ (with_refused (report_in l)) (length-set l 1 _ ∙ size) agree ∙ ap numbers_of (sym (unless_so a.refusal _ _ no)));
+        answer = told (Err own) (sym is);
+        numbers = taken _ (numbers_of_is _ (with_refused (report_in l)) (length-set l 1 _ ∙ size) agree ∙ ap numbers_of (sym (unless_so a.refusal _ _ own is)));
       }
     where
       other : (i : ℕ) → (i ≡ 1 → ⊥) → get_or (set l 1 (get_or l 1 0 + 1)) i 0 ≡ get_or l i 0
@@ -72,12 +66,12 @@ module _ (l : List ℕ) (a : Operand) (e : is_open (report_in l) ≡ true) where
 
 -- ---- an accepted record
 
-module _ (l b : List ℕ) (c : Checked) (terms weights : List ℕ) (f : Tallies b c terms weights) (z : c.refusal.number ≡ 0) where
+module _ (l b : List ℕ) (c : Checked) (terms weights : List ℕ) (f : Tallies b (Ok c) terms weights) where
   is : Accepted 1 b c
-  is = accepted 1 b c f.checked z
+  is = accepted 1 b c f.checked
 
   tallied : Tallied (terms_of b) terms weights
-  tallied = f.tallied z
+  tallied = f.tallied c refl
 
   terms_are : c.terms ≡ length (terms_of b)
   terms_are = ap (λ (x : Checked). x.terms) is.is ∙ sym (length_terms b (count_of b))
@@ -105,13 +99,13 @@ module _ (l b : List ℕ) (c : Checked) (terms weights : List ℕ) (f : Tallies 
           figures = light;
         }
 
-    pub one_accepted : (k : List ℕ) → AcceptedIn c terms weights l k → Counts l (read_as 1 b) (record { refusal = none; accepted = true; own = none }) k
+    pub one_accepted : (k : List ℕ) → AcceptedIn c terms weights l k → Counts l (read_as 1 b) (Ok none) k
     one_accepted k g =
         record {
-          answer = told l (read_as 1 b) e true none (eq-eqb _ _ is.number) (sym is.none);
+          answer = told l (read_as 1 b) e none (sym is.fine);
           numbers =
               taken l (read_as 1 b) e k
-              (numbers_of_is k (with_accepted (terms_of b) (report_in l)) (g.size ∙ size) agree ∙ ap numbers_of (sym (unless_not (refusal_of 1 b) _ _ is.number)));
+              (numbers_of_is k (with_accepted (terms_of b) (report_in l)) (g.size ∙ size) agree ∙ ap numbers_of (sym (unless_not (refusal_of 1 b) _ _ is.fine)));
         }
       where
         agree : Agree (report_in k) (with_accepted (terms_of b) (report_in l))

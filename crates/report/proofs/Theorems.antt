@@ -6,6 +6,8 @@ use Prim.Native.Nat.{ℕ, ◌+◌, ◌*◌, ◌^◌, ◌≤◌, ◌<◌}
 use native.Mathlib.Nat.{div-add-mod', mod-lt}
 use native.Mathlib.Omega.{arith}
 use lib.ListN.{length, get_or, replicate, get_or-replicate, length-replicate}
+use Rattle.std.specs.Prelude.{Ok, Err}
+use Rattle.modes.specs.declared.Reason.TheVariants.{BadReport}
 use Rattle.modes.specs.Answers.{refusal, none}
 use Rattle.modes.specs.Sums.{sum_by, amount_of}
 use Rattle.modes.proofs.Sums.{natural_numbers}
@@ -16,7 +18,6 @@ use Rattle.record.specs.Operands.{Operand, read_as}
 use Rattle.tally.specs.Ranks.{chosen, of_rank}
 use Rattle.report.specs.Reports.{report_in, numbers_of, is_open, report_after, counted_of}
 use Rattle.report.specs.Batches.{fresh, after_all, is_accepted, accepted_of, share_of, figures_over, Reordered}
-use Rattle.report.specs.declared.Counted.{Counted}
 use Rattle.report.proofs.Numbers.{Agree, same_numbers_is, numbers_of_is}
 use Rattle.report.proofs.Counting.{not_taken}
 use Rattle.report.proofs.Orders.{largest_of, same_number, same_sum, chosen_too, onto, onto_nothing}
@@ -71,15 +72,15 @@ pub batch_order : (bs cs : List (List ℕ)) → Reordered bs cs → length bs �
 batch_order bs cs r h = batch_figures bs h ∙ same_numbers_is _ _ (figures_agree r) ∙ sym (batch_figures cs (omega (arith, same_number r)))
 
 -- 15 IS NEVER GIVEN to the first 1,024, whatever they are
-pub batch_taken : (bs : List (List ℕ)) (a : Operand) → length bs < 1024 → (counted_of (after_all fresh bs) a).refusal ≡ none
+pub batch_taken : (bs : List (List ℕ)) (a : Operand) → length bs < 1024 → counted_of (after_all fresh bs) a ≡ Ok a.refusal
 batch_taken bs a h =
     let is = ap (λ (l : List ℕ). is_open (report_in l)) (batch_figures bs (omega arith)) ∙ numbers_open (figures_over bs) (figures_open bs h) in
-    rw is (ap (λ (c : Counted). c.refusal) (unless_not none _ _ refl))
+    rw is (unless_not none Err (Ok a.refusal) refl)
 
 -- and the 1,025th gets it, which leaves the report as it was
 pub batch_full : (bs : List (List ℕ)) (a : Operand) → length bs ≡ 1024
-    → ((counted_of (after_all fresh bs) a).refusal ≡ refusal 15 0 0) × (report_after (after_all fresh bs) a ≡ after_all fresh bs)
+    → (counted_of (after_all fresh bs) a ≡ Err (refusal BadReport 0 0)) × (report_after (after_all fresh bs) a ≡ after_all fresh bs)
 batch_full bs a h =
     let is = ap (λ (l : List ℕ). is_open (report_in l)) (batch_figures bs (omega arith)) ∙ sym (numbers_full (figures_over bs) (omega (arith, all_are bs))) in
     let left = not_taken (after_all fresh bs) a is in
-    (sym (ap (λ (c : Counted). c.refusal) left.answer), sym left.numbers)
+    (sym left.answer, sym left.numbers)

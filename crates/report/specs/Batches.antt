@@ -1,5 +1,5 @@
 -- Byte strings counted in turn into a fresh report, and the figures of all of them at once.
-use Rattle.std.specs.Prelude.{ℕ, ◌/◌, ◌%◌, ◌^◌, max, Bool, not, List, [], ◌∷◌, eqb, length, replicate}
+use Rattle.std.specs.Prelude.{ℕ, ◌/◌, ◌%◌, ◌^◌, max, Bool, not, List, [], ◌∷◌, is_ok, length, replicate}
 use Rattle.modes.specs.Sums.{sum_by, amount_of}
 use Rattle.record.specs.Terms.{weight}
 use Rattle.record.specs.Layout.{terms_of}
@@ -18,7 +18,7 @@ after_all l (b ∷ bs) = after_all (report_after l (read_as 1 b)) bs
 
 -- those that are accepted as records, and those that are not
 abbrev pub is_accepted : List ℕ → Bool
-is_accepted b = eqb (refusal_of 1 b).number 0
+is_accepted b = is_ok (refusal_of 1 b)
 
 abbrev pub accepted_of : List (List ℕ) → List (List ℕ)
 accepted_of = chosen is_accepted

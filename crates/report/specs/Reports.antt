@@ -1,13 +1,13 @@
 -- A report over records: its numbers, when it is taken, and what a record more makes of it.
-use Rattle.std.specs.Prelude.{◌≡◌, ℕ, zero, suc, ◌+◌, ◌*◌, ◌/◌, ◌%◌, ◌^◌, max, Bool, true, false, ◌&&◌, List, [], ◌∷◌, eqb, leb, ltb, length, get_or}
+use Rattle.std.specs.Prelude.{◌≡◌, ℕ, zero, suc, ◌+◌, ◌*◌, ◌/◌, ◌%◌, ◌^◌, max, Bool, true, ◌&&◌, List, [], ◌∷◌, Result, leb, ltb, length, get_or}
 use Rattle.modes.specs.declared.Term.{Term}
 use Rattle.modes.specs.declared.Refusal.{Refusal}
-use Rattle.modes.specs.Answers.{refusal, none}
-use Rattle.modes.specs.Refusals.{need, unless}
+use Rattle.modes.specs.declared.Reason.TheVariants.{BadReport}
+use Rattle.modes.specs.Answers.{Verdict, refusal}
+use Rattle.modes.specs.Refusals.{need, unless, answered}
 use Rattle.record.specs.Terms.{weight}
 use Rattle.record.specs.Operands.{Operand}
 use Rattle.tally.specs.Ranks.{of_rank}
-use Rattle.report.specs.declared.Counted.{Counted}
 
 -- terms counted, and their weight, which is high times 2^60 plus low
 pub record Share : Type 0 where
@@ -78,19 +78,17 @@ abbrev pub with_record : Operand → Report → Report
 with_record a p = unless a.refusal (λ _. with_refused p) (with_accepted a.terms p)
 
 -- 15, which leaves the report as it came and does not ask what the record is
-abbrev pub report_refusal : List ℕ → Refusal
-report_refusal l = need (is_open (report_in l)) (refusal 15 0 0)
+abbrev pub report_refusal : List ℕ → Verdict
+report_refusal l = need (is_open (report_in l)) (refusal BadReport 0 0)
 
--- the report after a call, number by number, and the call's answer
+-- the report after a call, number by number, and the call's answer: the judgement of the record, where the report is taken
 abbrev pub report_after : List ℕ → Operand → List ℕ
 report_after l a = unless (report_refusal l) (λ _. l) (numbers_of (with_record a (report_in l)))
 
-abbrev pub counted_of : List ℕ → Operand → Counted
-counted_of l a =
-    let found : Counted = record { refusal = none; accepted = eqb a.refusal.number 0; own = a.refusal } in
-    unless (report_refusal l) (λ r. record { refusal = r; accepted = false; own = none }) found
+abbrev pub counted_of : List ℕ → Operand → Result Verdict Refusal
+counted_of l a = answered (report_refusal l) a.refusal
 
 -- both at the end of a call
-pub record Counts (l : List ℕ) (a : Operand) (r : Counted) (k : List ℕ) : Type 0 where
+pub record Counts (l : List ℕ) (a : Operand) (r : Result Verdict Refusal) (k : List ℕ) : Type 0 where
   pub answer : r ≡ counted_of l a
   pub numbers : k ≡ report_after l a

@@ -6,7 +6,7 @@ ghost use Rattle.record.specs.Operands.{read_as};
 ghost use Rattle.report.specs.Reports.{share_in, report_in, within, all_within, is_open, Counts};
 ghost use Rattle.report.specs.Steps.{Grown, Mergeable, Merged, Countable, AcceptedIn};
 
-use modes::Refusal;
+use modes::{Reason, Refusal};
 use record::Checked;
 
 // Where the share of all terms stands in a report, the largest weight, and the share of rank 0. A share is three numbers:
@@ -29,18 +29,10 @@ const HIGHEST: u64 = 1024;
 
 // 15: the report counts all the records that it may, or one of its numbers is above its limit.
 const BAD_REPORT: Refusal = Refusal {
-    number: 15,
+    reason: Reason::BadReport,
     operand: 0,
     place: 0,
 };
-
-// What became of a record: whether it was accepted, and its own refusal. The call itself is refused where the report is.
-#[derive(Clone, Copy)]
-pub struct Counted {
-    pub refusal: Refusal,
-    pub accepted: bool,
-    pub own: Refusal,
-}
 
 // Are the numbers of the share at `at` within their limits? No branch ends it early, since most of them are.
 #[tactic(auto, unfolding(crate::specs::Reports::within))]
@@ -119,40 +111,32 @@ fn count_accepted(report: &mut [u64], c: Checked, terms: &[u64; 65], weights: &[
     merge(report, terms, weights);
 }
 
-// The record `a` counted into the 201 numbers of a report, which is judged first.
-fn count_record(a: &[u8], report: &mut [u64]) -> Counted
+// The record `a` counted into the 201 numbers of a report, which is judged first. What is answered where it is taken is the
+// record's own judgement.
+fn count_record(a: &[u8], report: &mut [u64]) -> Result<Result<(), Refusal>, Refusal>
     requires { length report.old ≡ 201 }
     ensures { Counts report.old (read_as 1 a.now) result report.new }
 {
     if !is_open(report) {
-        return Counted {
-            refusal: BAD_REPORT,
-            accepted: false,
-            own: Refusal::NONE,
-        };
+        return Err(BAD_REPORT);
     }
     let mut terms = [0u64; 65];
     let mut weights = [0u64; 65];
-    let c = tally::tally_record(a, &mut terms, &mut weights);
-    let own = c.refusal;
-    if own.number != 0 {
-        report[1] += 1;
-        return Counted {
-            refusal: Refusal::NONE,
-            accepted: false,
-            own,
-        };
-    }
-    count_accepted(report, c, &terms, &weights);
-    Counted {
-        refusal: Refusal::NONE,
-        accepted: true,
-        own: Refusal::NONE,
+    match tally::tally_record(a, &mut terms, &mut weights) {
+        Ok(c) => {
+            count_accepted(report, c, &terms, &weights);
+            Ok(Ok(()))
+        }
+        Err(own) => {
+            report[1] += 1;
+            Ok(Err(own))
+        }
     }
 }
 
-// The record `a` counted into the report.
-pub fn add(a: &[u8], report: &mut [u64; 201]) -> Counted
+// The record `a` counted into the report: refused where the report is, and else whether the record was accepted, or its own
+// refusal.
+pub fn add(a: &[u8], report: &mut [u64; 201]) -> Result<Result<(), Refusal>, Refusal>
     ensures { Counts report.old (read_as 1 a.now) result report.new }
 {
     count_record(a, report)

@@ -2,13 +2,14 @@
 #![tactic(auto)]
 
 ghost use Rattle.std.specs.Prelude.{◌≡◌, ◌+◌, ◌*◌, ◌≤◌, ◌<◌, ◌^◌, leb};
+ghost use Rattle.modes.specs.declared.Reason.TheVariants.{WordOutside, BadLine, TooManyLadders};
 ghost use Rattle.modes.specs.Answers.{refusal};
 ghost use Rattle.modes.specs.Refusals.{need, or_else};
 ghost use Rattle.decimals.specs.Ceiling.{up_to};
-ghost use Rattle.scan.specs.Scanned.{refused_text, scanned_of};
+ghost use Rattle.scan.specs.Scanned.{scanned_of};
 
 use lines::ReadLine;
-use modes::Refusal;
+use modes::{Reason, Refusal};
 
 // Over all lines so far, as far as one above the ceiling: magnitudes times 2 to the ladder count, and 2 to the ladder count.
 #[derive(Clone, Copy)]
@@ -17,51 +18,37 @@ pub struct Sums {
     pub spread: u64,
 }
 
-// The first refusal of a text, or none with its sums.
-#[derive(Clone, Copy)]
-pub struct Scanned {
-    pub refusal: Refusal,
-    pub sums: Sums,
-}
-
-impl Scanned {
-    fn refused(refusal: Refusal) -> Scanned
-        ensures { result ≡ refused_text refusal }
-    {
-        let sums = Sums {
-            burden: 0,
-            spread: 0,
-        };
-        Scanned { refusal, sums }
-    }
-}
-
-// 16, 2 and 17 of the line at `place`, once it is read.
-fn line_refusal(x: ReadLine, place: u64) -> Refusal
-    ensures { result ≡ or_else (need x.good (refusal 16 0 place)) (or_else (need x.inside (refusal 2 1 place)) (need (leb x.ladders 12) (refusal 17 0 place))) }
+// 16, of a line that is none.
+fn broken(place: u64) -> Refusal
+    ensures { result ≡ refusal BadLine 0 place }
 {
-    if !x.good {
-        return Refusal {
-            number: 16,
-            operand: 0,
-            place,
-        };
+    Refusal {
+        reason: Reason::BadLine,
+        operand: 0,
+        place,
     }
+}
+
+// 2 and 17 of the line at `place`, once it is read.
+#[tactic(auto, unfolding(modes::specs::Refusals::or_else))]
+fn line_refusal(x: ReadLine, place: u64) -> Result<(), Refusal>
+    ensures { result ≡ or_else (need x.inside (refusal WordOutside 1 place)) (need (leb x.ladders 12) (refusal TooManyLadders 0 place)) }
+{
     if !x.inside {
-        return Refusal {
-            number: 2,
+        return Err(Refusal {
+            reason: Reason::WordOutside,
             operand: 1,
             place,
-        };
+        });
     }
     if 12 < x.ladders {
-        return Refusal {
-            number: 17,
+        return Err(Refusal {
+            reason: Reason::TooManyLadders,
             operand: 0,
             place,
-        };
+        });
     }
-    Refusal::NONE
+    Ok(())
 }
 
 // The product of a magnitude and 2 to a ladder count may pass 64 bits, so it is judged by a quotient.
@@ -88,7 +75,7 @@ fn with_line(s: Sums, x: ReadLine) -> Sums
 }
 
 // Any bytes as a text on m modes.
-pub fn scan(m: u64, text: &[u8]) -> Scanned
+pub fn scan(m: u64, text: &[u8]) -> Result<Sums, Refusal>
     requires { m ≤ 64 }
     ensures { result ≡ scanned_of m text.now }
 {
@@ -98,27 +85,20 @@ pub fn scan(m: u64, text: &[u8]) -> Scanned
     };
     let mut at = 0;
     let mut place = 0;
+    // a `while`, for each step ends where `piece_end` finds the line's end
     while at < text.len() {
         let end = lines::piece_end(text, at, b'\n');
         if end == text.len() {
             // the last line feed is missing
-            return Scanned::refused(Refusal {
-                number: 16,
-                operand: 0,
-                place,
-            });
+            return Err(broken(place));
         }
-        let x = lines::read_line(&text[at..end], m);
-        let refusal = line_refusal(x, place);
-        if refusal.number != 0 {
-            return Scanned::refused(refusal);
-        }
+        let Some(x) = lines::read_line(&text[at..end], m) else {
+            return Err(broken(place));
+        };
+        line_refusal(x, place)?;
         sums = with_line(sums, x);
         at = end + 1;
         place += 1;
     }
-    Scanned {
-        refusal: Refusal::NONE,
-        sums,
-    }
+    Ok(sums)
 }

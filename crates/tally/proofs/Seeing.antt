@@ -1,10 +1,9 @@
 -- What is seen of the terms, from one to the next.
-use Rattle.std.proofs.Common.{◌≡◌, ℕ, suc, ◌+◌, ◌%◌, ◌^◌, ◌<◌, ◌≤◌, Bool, true, false, not, ◌&&◌, None, eqb, leb, List, ◌∷◌, drop, nat_abs, sym, refl, ap, ◌∙◌, true≢false, mod-eq_of_lt, add-one, arith, lt-ltb, ne_eqb, le-leb, leb-true}
+use Rattle.std.proofs.Common.{◌≡◌, ℕ, suc, ◌+◌, ◌%◌, ◌^◌, ◌<◌, ◌≤◌, Bool, true, false, not, ◌&&◌, None, eqb, leb, List, ◌∷◌, drop, nat_abs, sym, refl, ◌∙◌, true≢false, mod-eq_of_lt, add-one, arith, lt-ltb, ne_eqb, le-leb, leb-true}
 use lib.Bits.{bit_or, or_lt, or_add_and, and_le_l, and_le_r}
 use borrow.Author.Tests.{eqb-false, not-true}
 use Rattle.modes.specs.declared.Term.{Term}
-use Rattle.modes.specs.declared.Refusal.{Refusal}
-use Rattle.modes.specs.Answers.{none}
+use Rattle.modes.specs.Answers.{Verdict, none}
 use Rattle.modes.specs.Refusals.{or_else}
 use Rattle.modes.specs.Spaces.{inside}
 use Rattle.modes.proofs.Bools.{and_l, and_r}
@@ -39,7 +38,7 @@ module _ (m : ℕ) (ts : List Term) where
 
   module _ (s : Seen) (i : ℕ) (g : Seeing m ts s i) where
     -- what refuses the next term refuses them all
-    pub next_refuses : (r : Refusal) → Refuses m ts s i r → (r.number ≡ 0 → ⊥) → terms_refusal 1 m 0 (λ _. true) ts ≡ r
+    pub next_refuses : (r : Verdict) → Refuses m ts s i r → (r ≡ none → ⊥) → terms_refusal 1 m 0 (λ _. true) ts ≡ r
     next_refuses r h some = g.rest ∙ front m i _ _ _ h.term h.at ∙ rw (← h.is) (or_first r _ some)
 
     module _ (t : Term) (at : At ts i t) (k : ℕ) (is : (k ≡ nat_abs t.coeff) × (k ≤ 2 ^ 63)) where
@@ -68,7 +67,7 @@ module _ (m : ℕ) (ts : List Term) where
       -- top is the word of all modes, and b tells whether the term is taken
       module _ (top : ℕ) (full : top + 1 ≡ 2 ^ m) (b : Bool) (told : b ≡ takes_next top t k s) where
         -- one that is not is refused
-        pub untaken_refused : b ≡ false → (r : Refusal) → Refuses m ts s i r → r.number ≡ 0 → ⊥
+        pub untaken_refused : b ≡ false → (r : Verdict) → Refuses m ts s i r → r ≡ none → ⊥
         untaken_refused out r h z =
             let same : h.term ≡ t = cc in
             let right : Right m up t = term_right 1 m i up t (rw (← same, ← h.is) z) in
@@ -102,8 +101,7 @@ module _ (m : ℕ) (ts : List Term) where
           further : terms_refusal 1 m 0 (λ _. true) ts ≡ terms_refusal 1 m (i + 1) (before t) (drop (i + 1) ts)
           further =
               let judged : none ≡ term_refusal 1 m i up t = right_term 1 m i up t fits (and_r (leb t.ann top) up rest) some in
-              let number = ap (λ (r : Refusal). r.number) (sym judged) in
-              g.rest ∙ front m i _ _ _ t at ∙ or_second (term_refusal 1 m i up t) _ number ∙ rw add-one
+              g.rest ∙ front m i _ _ _ t at ∙ or_second (term_refusal 1 m i up t) _ (sym judged) ∙ rw add-one
 
           pub seeing_goes : (u : Seen) → u ≡ next → Seeing m ts u (i + 1)
           seeing_goes u e = rw e (record { rest = further; held = or_right s.bits now; exact = sum; low = stays_low })

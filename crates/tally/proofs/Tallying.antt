@@ -1,12 +1,15 @@
 -- The terms and the weights of the ranks, counted while the terms are looked at.
-use Rattle.std.proofs.Common.{◌≡◌, ℕ, ◌+◌, ◌/◌, ◌%◌, ◌^◌, ◌<◌, ◌≤◌, true, false, List, [], length, get_or, drop, set, nat_abs, sym, refl, ap, ◌∙◌, div-add-mod', arith, length-set}
+use Rattle.std.proofs.Common.{◌≡◌, ℕ, ◌+◌, ◌/◌, ◌%◌, ◌^◌, ◌<◌, ◌≤◌, true, false, List, [], length, get_or, drop, set, nat_abs, sym, refl, ◌∙◌, div-add-mod', arith, length-set}
 use Rattle.modes.specs.declared.Term.{Term}
 use Rattle.modes.specs.declared.Refusal.{Refusal}
+use Rattle.std.specs.Prelude.{Result, Ok, Err}
+use Rattle.modes.specs.declared.Refusal.{Refusal}
+use Rattle.modes.specs.declared.Reason.TheVariants.{Malformed}
 use Rattle.modes.specs.Answers.{refusal}
 use Rattle.record.specs.Terms.{weight}
 use Rattle.record.specs.Reading.{At}
 use Rattle.record.specs.Layout.{laid_out, terms_in, count_of}
-use Rattle.record.specs.Refusals.{refused_record, checked_of}
+use Rattle.record.specs.Refusals.{checked_of}
 use Rattle.record.specs.declared.Checked.{Checked}
 use Rattle.record.proofs.Header.{laid}
 use Rattle.record.proofs.Accepted.{accepted}
@@ -71,29 +74,24 @@ module _ (ts : List Term) where
             }
 
 -- what is found of the bytes l once all terms were looked at
-pub all_found : (l : List ℕ) (c : Checked) → c ≡ checked_of 1 l → (n : ℕ) → n ≡ count_of l → (i : ℕ) (terms sizes : List ℕ)
-    → Tallying (terms_in l n) i terms sizes → n ≤ i → Tallies l c terms sizes
+pub all_found : (l : List ℕ) (c : Checked) → Ok c ≡ checked_of 1 l → (n : ℕ) → n ≡ count_of l → (i : ℕ) (terms sizes : List ℕ)
+    → Tallying (terms_in l n) i terms sizes → n ≤ i → Tallies l (Ok c) terms sizes
 all_found l c e n count i terms sizes g done =
     record {
       checked = e;
-      tallied = λ z.
-          let light : weight (terms_in l n) ≤ 2 ^ 60 = rw count (accepted 1 l c e z).canonical.light in
+      tallied = λ k z.
+          let light : weight (terms_in l n) ≤ 2 ^ 60 = rw count (accepted 1 l c e).canonical.light in
           rw (← count) (tally_ends (terms_in l n) i terms sizes g light (none_left l n i done));
     }
 
 -- or once it is refused: nothing is told of the columns then
-refused_found : (l : List ℕ) (c : Checked) → c ≡ checked_of 1 l → (c.refusal.number ≡ 0 → ⊥) → (terms sizes : List ℕ) → Tallies l c terms sizes
-refused_found l c e h terms sizes = record { checked = e; tallied = λ z. absurd (h z) }
+pub refused_found : (l : List ℕ) (r : Refusal) → Err r ≡ checked_of 1 l → (terms sizes : List ℕ) → Tallies l (Err r) terms sizes
+refused_found l r e terms sizes = record { checked = e; tallied = λ k z. cc }
 
-pub refusal_found : (l : List ℕ) (r : Refusal) → refused_record r ≡ checked_of 1 l → (r.number ≡ 0 → ⊥) → (c : Checked) → c ≡ refused_record r
-    → (terms sizes : List ℕ) → Tallies l c terms sizes
-refusal_found l r is some c e = refused_found l c (e ∙ is) (λ z. some (sym (ap (λ (x : Checked). x.refusal.number) e) ∙ z))
-
-pub header_found : (l : List ℕ) (c : Checked) → c ≡ checked_of 1 l → laid_out l ≡ false → (terms sizes : List ℕ) → Tallies l c terms sizes
+pub header_found : (l : List ℕ) (c : Result Checked Refusal) → c ≡ checked_of 1 l → laid_out l ≡ false → (terms sizes : List ℕ) → Tallies l c terms sizes
 header_found l c e bad terms sizes =
-    let refused = refused_is 1 l (refusal 1 1 0) (not_laid 1 l bad) (λ z. absurd (omega arith)) in
-    let told : c.refusal.number ≡ 1 = ap (λ (x : Checked). x.refusal.number) (e ∙ sym refused) in
-    refused_found l c e (λ z. absurd (omega (arith, told, z))) terms sizes
+    let told : c ≡ Err (refusal Malformed 1 0) = e ∙ sym (refused_is 1 l (refusal Malformed 1 0) (not_laid 1 l bad)) in
+    record { checked = e; tallied = λ k z. cc }
 
 -- and a laid out one has its header
 pub header_there : (l : List ℕ) → laid_out l ≡ true → 32 ≤ length l

@@ -1,21 +1,17 @@
 -- What is known between two terms of the walk over a record. For inner functions only.
-use Rattle.std.specs.Prelude.{◌≡◌, ℕ, ◌+◌, ◌*◌, ◌%◌, ◌^◌, ◌<◌, ◌≤◌, Bool, true, not, ◌&&◌, Option, None, Some, List, length, drop, ◌==◌, ◌≢◌, bit_or, nat_le, nat_lt, slice_index}
+use Rattle.std.specs.Prelude.{◌≡◌, ℕ, ◌+◌, ◌*◌, ◌%◌, ◌^◌, ◌<◌, ◌≤◌, Bool, true, not, ◌&&◌, Some, List, length, drop, ◌==◌, ◌≢◌, bit_or, nat_le, nat_lt, slice_index}
 use Rattle.modes.specs.declared.Term.{Term}
-use Rattle.modes.specs.declared.Refusal.{Refusal}
-use Rattle.record.specs.Terms.{before, weight}
+use Rattle.modes.specs.Answers.{Verdict, none}
+use Rattle.record.specs.Terms.{follows, weight}
 use Rattle.record.specs.Reading.{At}
 use Rattle.record.specs.Refusals.{term_refusal, terms_refusal}
 use Rattle.tally.specs.Ranks.{of_rank}
 use Rattle.tally.specs.declared.Seen.{Seen}
 use Rattle.tally.specs.declared.Reached.{Reached}
 
--- t is the first, or above the one before it
-abbrev pub is_above : Option Term → Term → Bool
-is_above None t = true
-is_above (Some last) t = before last t
-
+-- may t come next, by its place alone
 abbrev pub comes_after : Seen → Term → Bool
-comes_after s = is_above s.last
+comes_after s = follows s.last
 
 -- a term of the magnitude k may come next: it is not zero, neither of its words is above `top`, and it comes after the one before it
 abbrev pub takes_next : ℕ → Term → ℕ → Seen → Bool
@@ -53,8 +49,8 @@ pub record Tallying (ts : List Term) (i : ℕ) (terms sizes : List ℕ) : Type 0
   pub number : Column (λ x left whole. x + left ≡ whole) length ts i terms
   pub sum : Column Wraps weight ts i sizes
 
--- r is what the i-th term's own refusal is, 0 or not
-pub record Refuses (m : ℕ) (ts : List Term) (s : Seen) (i : ℕ) (r : Refusal) : Type 0 where
+-- r is the judgement of the i-th term by itself
+pub record Refuses (m : ℕ) (ts : List Term) (s : Seen) (i : ℕ) (r : Verdict) : Type 0 where
   pub term : Term
   pub at : At ts i term
   pub is : r ≡ term_refusal 1 m i (comes_after s term) term
@@ -64,4 +60,9 @@ pub record Walked (m : ℕ) (ts : List Term) (n : ℕ) (w : Reached) (terms size
   pub bound : w.place ≤ n
   pub seeing : Seeing m ts w.seen w.place
   pub tallying : Tallying ts w.place terms sizes
-  pub ended : w.place < n → (r : Refusal) → Refuses m ts w.seen w.place r → r.number ≢ 0
+  pub ended : w.place < n → (r : Verdict) → Refuses m ts w.seen w.place r → r ≢ none
+
+-- r is the judgement of the term at which it ended, and none where that is behind the last
+pub record Judges (m : ℕ) (ts : List Term) (n : ℕ) (w : Reached) (r : Verdict) : Type 0 where
+  pub early : w.place < n → Refuses m ts w.seen w.place r
+  pub whole : n ≤ w.place → r ≡ none

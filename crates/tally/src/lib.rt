@@ -6,9 +6,9 @@ ghost use Rattle.std.specs.Prelude.{◌≡◌, ◌+◌, ◌^◌, ◌<◌, ◌≤
 ghost use Rattle.record.specs.Layout.{laid_out, modes_of, count_of, terms_in};
 ghost use Rattle.record.specs.Reading.{Holds};
 ghost use Rattle.tally.specs.Tallies.{none_yet, Tallies};
-ghost use Rattle.tally.specs.Walks.{comes_after, takes_next, seen_with, is_light, Walked, Refuses};
+ghost use Rattle.tally.specs.Walks.{comes_after, takes_next, seen_with, is_light, Walked, Judges};
 
-use modes::{ModeSpace, Refusal, Term};
+use modes::{ModeSpace, Reason, Refusal, Term};
 use record::Checked;
 
 // 2^61. A sum in 64 bits that was below it all the way did not wrap, for no step is above 2^63.
@@ -24,16 +24,6 @@ struct Seen {
 }
 
 impl Seen {
-    // May t stand after the last one? Anything may stand first.
-    fn precedes(self, t: Term) -> bool
-        ensures { result ≡ comes_after self t }
-    {
-        match self.last {
-            None => true,
-            Some(last) => record::is_before(last, t),
-        }
-    }
-
     // May t, of the magnitude k, come next? `top` is the word of all modes: to hold each word against it is quicker than a shift.
     fn takes(self, top: u64, t: Term, k: u64) -> bool
         ensures { result ≡ takes_next top t k self }
@@ -47,7 +37,7 @@ impl Seen {
         if top < t.ann {
             return false;
         }
-        self.precedes(t)
+        record::follows(self.last, t)
     }
 
     // a term more, of the magnitude k
@@ -113,14 +103,17 @@ fn walk(s: &[u8], m: u64, n: usize, terms: &mut [u64; 65], weights: &mut [u64; 6
     Reached { seen, place: n }
 }
 
-// What refuses the i-th of n terms, after what was seen.
-fn refusal_at(s: &[u8], m: u64, n: usize, seen: Seen, i: usize) -> Refusal
-    requires { Holds s.now n × (i < n) }
-    ensures { Refuses m (terms_in s.now n) seen i result }
+// What refuses the term at which a walk over n terms ended, if it did not go to the end.
+fn judge_end(s: &[u8], m: u64, n: usize, reached: Reached) -> Result<(), Refusal>
+    requires { Holds s.now n }
+    ensures { Judges m (terms_in s.now n) n reached result }
 {
-    let t = record::read_term(s, n, i);
-    let up = seen.precedes(t);
-    record::term_refusal(ModeSpace { count: m }, 1, i as u64, up, t)
+    if n <= reached.place {
+        return Ok(());
+    }
+    let t = record::read_term(s, n, reached.place);
+    let up = record::follows(reached.seen.last, t);
+    record::term_refusal(ModeSpace { count: m }, 1, reached.place as u64, up, t)
 }
 
 // The check of n terms on m modes, once the header is right, and their tally.
@@ -130,34 +123,33 @@ fn tally_terms(
     n: usize,
     terms: &mut [u64; 65],
     weights: &mut [u64; 65],
-) -> Checked
+) -> Result<Checked, Refusal>
     requires { (laid_out s.now ≡ true) × (m ≡ modes_of s.now) × (n ≡ count_of s.now) × (terms.old ≡ none_yet) × (weights.old ≡ none_yet) }
     ensures { Tallies s.now result terms.new weights.new }
 {
     let reached = walk(s, m, n, terms, weights);
-    let seen = reached.seen;
-    if reached.place < n {
-        let r = refusal_at(s, m, n, seen, reached.place);
-        return Checked::refused(r);
-    }
-    if !seen.is_light() {
-        return Checked::refused(Refusal {
-            number: 5,
+    judge_end(s, m, n, reached)?;
+    if !reached.seen.is_light() {
+        return Err(Refusal {
+            reason: Reason::TooHeavy,
             operand: 1,
             place: 0,
         });
     }
-    Checked {
-        refusal: Refusal::NONE,
+    Ok(Checked {
         modes: m,
         terms: n,
-        weight: seen.weight,
-    }
+        weight: reached.seen.weight,
+    })
 }
 
 // The check of a record, and the terms and weights of its ranks, counted from zeros. They tell nothing where it is refused.
 #[tactic(auto, using(crate::proofs::Tallying::header_there))]
-pub fn tally_record(s: &[u8], terms: &mut [u64; 65], weights: &mut [u64; 65]) -> Checked
+pub fn tally_record(
+    s: &[u8],
+    terms: &mut [u64; 65],
+    weights: &mut [u64; 65],
+) -> Result<Checked, Refusal>
     requires { (terms.old ≡ none_yet) × (weights.old ≡ none_yet) }
     ensures { Tallies s.now result terms.new weights.new }
 {

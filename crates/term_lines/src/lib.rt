@@ -33,7 +33,7 @@ fn put_modes(s: &mut [u8], at: usize, word: u64, kind: u8) -> usize
     while rest != 0 {
         s[end] = b' ';
         end = decimals::put_field(s, end + 1, modes::lowest_mode(rest), kind);
-        rest = rest & (rest - 1);
+        rest &= rest - 1;
     }
     end
 }

@@ -1,6 +1,5 @@
--- The mode count that a word names, and the answers to a text and to a record, case by case.
-use mathlib.Core.Path.{◌≡◌, sym, ap, ◌∙◌}
-use mathlib.Core.Bool.{true, false}
+-- The answers to a text and to a record, case by case.
+use mathlib.Core.Path.{◌≡◌}
 use mathlib.Core.List.{List}
 use Prim.Native.Nat.{ℕ, ◌≤◌, ◌<◌}
 use lib.Dec.{leb}
@@ -9,8 +8,7 @@ use borrow.Author.Tests.{le-leb, lt-leb}
 use Rattle.modes.specs.Answers.{rows_do_not_fit}
 use Rattle.modes.specs.Sums.{list_of}
 use Rattle.lent.specs.Outputs.{refused_output}
-use Rattle.decimals.specs.declared.Number.{Number}
-use Rattle.decimals.specs.Ceiling.{up_to, number_in}
+use Rattle.decimals.specs.Ceiling.{up_to}
 use Rattle.record.specs.Layout.{encode}
 use Rattle.record.specs.Operands.{Operand}
 use Rattle.normal.specs.Normal.{normal}
@@ -22,15 +20,6 @@ use Rattle.text.specs.Export.{export_of}
 use Rattle.text.proofs.Bringing.{modes_capped}
 use Rattle.reply.proofs.Replies.{Shape, filling, unless_shape, tested_shape}
 use Rattle.text_reply.specs.TextReplies.{modes_in, longest_text, import_answer}
-
-module _ (word : List ℕ) (n : Number) (read : n ≡ number_in word) where
-  pub number_named : n.good ≡ true → n.value ≡ up_to (modes_in word)
-  unfolding modes_in
-  number_named h = rw (ap (λ (x : Number). x.good) (sym read) ∙ h) (ap (λ (x : Number). x.value) read)
-
-  pub none_named : n.good ≡ false → 0 ≡ up_to (modes_in word)
-  unfolding modes_in
-  none_named h = rw (ap (λ (x : Number). x.good) (sym read) ∙ h)
 
 module _ (work room : ℕ) (word text : List ℕ) where
   pub long_refused : longest_text < length text → refused_output room rows_do_not_fit ≡ import_answer work room word text

@@ -23,11 +23,11 @@ pub const ROOM: usize = record::LONGEST;
 const WORK: usize = 48 * 65536;
 
 // The mode count that a word names, as far as one above the ceiling: 0, which no record has, where it is no number.
+#[tactic(auto, unfolding(crate::specs::TextReplies::modes_in))]
 fn modes_in(word: &[u8]) -> u64
     ensures { result ≡ up_to (modes_in word.now) }
 {
-    let n = decimals::read_number(word);
-    if n.good { n.value } else { 0 }
+    decimals::read_number(word).unwrap_or(0)
 }
 
 // The record of a text on as many modes as the word names, or its refusal.

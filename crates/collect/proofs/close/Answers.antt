@@ -1,10 +1,6 @@
 -- `collect::close` meets its contract: the row is dropped, or stored behind those that are done.
-use Rattle.collect.proofs.Closing.{closed_dropped, closed_stored}
+use Rattle.collect.proofs.Closing.{closed_stored}
 use Rattle.collect.proofs.close.Goals as goal
-
-pub returns-then-row-eq0 : goal.returns-then-row-eq0
-returns-then-row-eq0 c =
-    closed_dropped c.args.place c.args.row c.args.work.now c.requires.1 c.if-row-eq0.true
 
 pub returns : goal.returns
 returns c =

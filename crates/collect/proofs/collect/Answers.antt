@@ -1,12 +1,6 @@
 -- `collect::collect` meets its contract: the sort keeps what the rows make, and puts like ones side by side.
-use native.Mathlib.Omega.{arith}
-use lib.ListN.{length}
-use Rattle.collect.proofs.Sorting.{front_apart, sorted_fit, collected}
+use Rattle.collect.proofs.Sorting.{sorted_fit, collected}
 use Rattle.collect.proofs.collect.Goals as goal
-
-pub sort-requires : goal.sort-requires
-sort-requires c =
-    front_apart c.rows-places.result _ (length c.args.work.now) c.rows-places.ensures (omega (arith, c.requires.0))
 
 pub join-requires : goal.join-requires
 join-requires c =

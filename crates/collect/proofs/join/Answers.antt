@@ -1,5 +1,5 @@
 -- `collect::join` meets its contract: at every row the rows done and the one in hand make what the rows read make.
-use Rattle.collect.proofs.Joining.{joining_from, joining_on, row_room, place_room, meet_light, joined_none, joined_all}
+use Rattle.collect.proofs.Joining.{joining_from, joining_on, row_room, meet_light, joined_none, joined_all}
 use Rattle.collect.proofs.join.Goals as goal
 
 pub returns-then-n-eq0 : goal.returns-then-n-eq0
@@ -25,11 +25,6 @@ loop-i-preserved c =
     let w = c.meet-o in
     joining_on c.args.n p.i c.args.work.now p.work p.o.place p.o.row p.invariant c.loop-i-test.true c.requires.1 c.requires.2
     w.new.work w.result.place w.result.row w.ensures
-
-pub close-requires : goal.close-requires
-close-requires c =
-    let p = c.loop-i in
-    (place_room c.args.n p.i c.args.work.now p.work p.o.place p.o.row p.invariant c.requires.0, p.invariant.hand.own)
 
 pub returns : goal.returns
 returns c =

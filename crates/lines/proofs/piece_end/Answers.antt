@@ -1,10 +1,6 @@
 -- `lines::piece_end` meets its contract. The invariant: no such byte so far.
-use mathlib.Core.Path.{refl}
 use Rattle.lines.proofs.Pieces.{looking_goes, looking_found, looking_ends}
 use Rattle.lines.proofs.piece_end.Goals as goal
-
-pub loop-end-init : goal.loop-end-init
-loop-end-init c = record { inside = c.requires; far = refl }
 
 pub returns-then-s-end : goal.returns-then-s-end
 returns-then-s-end c = looking_found _ _ _ _ c.loop-end.invariant c.loop-end-test.true c.if-s-end.true

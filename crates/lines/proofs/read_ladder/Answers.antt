@@ -1,19 +1,16 @@
 -- `lines::read_ladder` meets its contract.
-use mathlib.Core.Path.{sym}
-use native.Mathlib.Omega.{arith}
-use Prim.Native.Nat.{◌-◌}
-use lib.ListN.{length}
-use lib.Seq.{length-take-le}
-use Rattle.lines.proofs.Fields.{no_ladder, ladder_read_is}
+use mathlib.Core.Path.{sym, ◌∙◌}
+use Rattle.lines.proofs.Fields.{no_bytes, no_kind, no_mode, ladder_read_is}
 use Rattle.lines.proofs.read_ladder.Goals as goal
 
-pub returns-then-s-eq0 : goal.returns-then-s-eq0
-returns-then-s-eq0 c = no_ladder c.args.s.now c.if-s-eq0.true
+pub returns-in_default : goal.returns-in_default
+returns-in_default c = no_bytes c.args.s.now c.in_default.len_below
 
-pub slice_bounds-read_number-end : goal.slice_bounds-read_number-end
-slice_bounds-read_number-end c = let l = c.args.s.now in sym (length-take-le (length l - 1) l (omega arith))
+pub returns-then-not-is_kind : goal.returns-then-not-is_kind
+returns-then-not-is_kind c = no_kind c.args.s.now (sym c.if-not-is_kind.ensures)
+
+pub returns-in_err-mode : goal.returns-in_err-mode
+returns-in_err-mode c = c.from_residual.ensures ∙ no_mode c.args.s.now c.in_err-mode.ensures
 
 pub returns : goal.returns
-returns c =
-    ladder_read_is c.args.s.now _ _ _ c.read_number-number.ensures c.is_kind.ensures
-    c.both.ensures
+returns c = ladder_read_is c.args.s.now (sym c.if-not-is_kind.ensures) _ c.in_ok-mode.ensures

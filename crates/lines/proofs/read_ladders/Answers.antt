@@ -2,36 +2,23 @@
 use mathlib.Core.Path.{◌∙◌}
 use native.Mathlib.Omega.{arith}
 use Rattle.lines.specs.Grammar.{space}
-use Rattle.lines.proofs.Pieces.{rest_next, rest_none, pieces_from_is}
-use Rattle.lines.proofs.Fields.{going_starts, going_on, going_ends}
+use Rattle.lines.proofs.Pieces.{next_field, rest_none}
+use Rattle.lines.proofs.Fields.{going_on, going_breaks, going_ends}
 use Rattle.lines.proofs.read_ladders.Goals as goal
 
-pub loop-end-init : goal.loop-end-init
-loop-end-init c = (c.requires.0, omega arith, going_starts _ _)
-
-pub slice_bounds-read_ladder-count : goal.slice_bounds-read_ladder-count
-slice_bounds-read_ladder-count c = omega (arith, c.piece_end-end.ensures.0)
-
-pub slice_bounds-read_ladder-start : goal.slice_bounds-read_ladder-start
-slice_bounds-read_ladder-start c = omega (arith, c.piece_end-end.ensures.0)
-
-pub slice_bounds-read_ladder-end : goal.slice_bounds-read_ladder-end
-slice_bounds-read_ladder-end c = c.piece_end-end.ensures.1
-
-pub loop-end-smaller : goal.loop-end-smaller
-loop-end-smaller c =
-    omega (arith, c.piece_end-end.ensures.0, c.loop-end-test.true)
+pub returns-in_err-read_ladder : goal.returns-in_err-read_ladder
+returns-in_err-read_ladder c =
+    let field = next_field space c.args.line.now _ _ c.loop-end-test.true c.piece_end-end.ensures.0 in
+    c.from_residual.ensures ∙ going_breaks _ c.requires.1 _ _ _ c.loop-end.invariant.2 _ _ field c.in_err-read_ladder.ensures
 
 pub loop-end-preserved : goal.loop-end-preserved
 loop-end-preserved c =
-    let line = c.args.line.now in
     let piece = c.piece_end-end.ensures in
-    let more = c.one_more-x.ensures in (
+    let more = c.one_more-x.ensures in
+    let field = next_field space c.args.line.now _ _ c.loop-end-test.true piece.0 in (
       piece.1,
-      omega (arith, c.loop-end.invariant.1, more.2, piece.0),
-      going_on _ c.requires.1 _ _ _ c.loop-end.invariant.2 _ _
-          (rest_next space line _ c.loop-end-test.true ∙ pieces_from_is space line _ _ piece.0) _ c.read_ladder.ensures _ more.0 more.1
-          more.2,
+      omega (arith, c.loop-end.invariant.1, more.1, piece.0),
+      going_on _ c.requires.1 _ _ _ c.loop-end.invariant.2 _ _ field _ c.in_ok-read_ladder.ensures _ more.0 more.1,
     )
 
 pub returns : goal.returns

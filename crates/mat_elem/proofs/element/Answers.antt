@@ -3,24 +3,23 @@ use mathlib.Core.Path.{◌∙◌}
 use mir.Facts.{to_z-of_z}
 use mir.Syntax.{w64}
 use mir.Val.{SFits}
+use Rattle.modes.proofs.Refusals.{handed_on}
 use Rattle.mat_elem.proofs.Answering.{record_refused, words_refused, element_found, terms_held}
 use Rattle.mat_elem.proofs.element.Goals as goal
 
-pub returns-then-c-ne0 : goal.returns-then-c-ne0
-returns-then-c-ne0 c =
-    c.refused.ensures ∙ record_refused _ _ _ _ c.check-c.ensures c.if-c-ne0.true
+pub returns-in_err-c : goal.returns-in_err-c
+returns-in_err-c c =
+    handed_on _ _ c.from_residual.ensures.0 c.from_residual.ensures.1 ∙ record_refused _ _ _ _ c.in_err-c.ensures
 
-pub returns-then-words-ne0 : goal.returns-then-words-ne0
-returns-then-words-ne0 c =
-    c.refused-then-words-ne0.ensures ∙ words_refused _ _ _ _ c.check-c.ensures c.if-c-ne0.false _ c.words_refusal-words.ensures c.if-words-ne0.true
+pub returns-in_err-words_refusal : goal.returns-in_err-words_refusal
+returns-in_err-words_refusal c =
+    handed_on _ _ c.from_residual-in_err-words_refusal.ensures.0 c.from_residual-in_err-words_refusal.ensures.1
+    ∙ words_refused _ _ _ _ c.in_ok-c.ensures _ c.in_err-words_refusal.ensures
 
-pub sum_parts-value-requires : goal.sum_parts-value-requires
-sum_parts-value-requires c =
-    let a = c.args in
-    terms_held _ a.bra a.ket _ c.check-c.ensures c.if-c-ne0.false
+pub sum_parts-requires : goal.sum_parts-requires
+sum_parts-requires c = terms_held _ c.args.bra c.args.ket _ c.in_ok-c.ensures
 
 pub returns : goal.returns
 returns c =
-    let small : SFits w64 c.sum_parts-value.result = record { sfits = c.sum_parts-value.type_inv } in
-    element_found _ _ _ _ c.check-c.ensures c.if-c-ne0.false _ c.words_refusal-words.ensures c.if-words-ne0.false _
-    (to_z-of_z small ∙ c.sum_parts-value.ensures)
+    let small : SFits w64 c.sum_parts.result = record { sfits = c.sum_parts.type_inv } in
+    element_found _ _ _ _ c.in_ok-c.ensures c.in_ok-words_refusal.ensures _ (to_z-of_z small ∙ c.sum_parts.ensures)

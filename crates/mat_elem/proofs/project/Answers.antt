@@ -1,5 +1,4 @@
 -- `mat_elem::project` meets its contract. The invariant: the rows of the first `i` bras are filled.
-use mathlib.Core.Path.{refl}
 use Rattle.mat_elem.specs.Matrix.{matrix_of}
 use Rattle.mat_elem.proofs.Filling.{fills_word, filled_words}
 use Rattle.mat_elem.proofs.project.Goals as goal
@@ -13,4 +12,4 @@ pub returns : goal.returns
 unfolding matrix_of
 returns c =
     let l = c.loop-i in
-    (refl, filled_words _ _ c.args.basis.now c.requires.1 l.i l.rows l.invariant l.auto.i-end c.loop-i-test.false)
+    filled_words _ _ c.args.basis.now c.requires.1 l.i l.rows l.invariant l.auto.i-end c.loop-i-test.false

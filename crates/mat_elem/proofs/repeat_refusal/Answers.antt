@@ -1,6 +1,5 @@
 -- `mat_elem::repeat_refusal` meets its contract. The invariant: no word so far is refused.
 use mathlib.Core.Path.{sym, ◌∙◌}
-use native.Mathlib.Omega.{arith}
 use Rattle.modes.proofs.FirstRefusals.{first_starts, first_goes, first_stays}
 use Rattle.mat_elem.proofs.repeat_refusal.Goals as goal
 
@@ -10,7 +9,7 @@ loop-i-init c = first_starts _
 pub returns-then-stands_earlier : goal.returns-then-stands_earlier
 returns-then-stands_earlier c =
     let again = sym c.stands_earlier.ensures ∙ c.if-stands_earlier.true in
-    first_stays _ _ c.loop-i.invariant _ (rw again) (λ q. omega arith) _ c.loop-i-test.true
+    first_stays _ _ c.loop-i.invariant _ (rw again) _ c.loop-i-test.true
 
 pub loop-i-preserved : goal.loop-i-preserved
 loop-i-preserved c =

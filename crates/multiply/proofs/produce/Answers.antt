@@ -1,5 +1,4 @@
 -- `multiply::produce` meets its contract: each way out gives what the definition says.
-use native.Mathlib.Omega.{arith}
 use lib.ListN.{length}
 use Rattle.record.proofs.Outputs.{gives_as}
 use Rattle.multiply.proofs.Answering.{pair_refused, heavy_refused, left_size, right_size, weights_light, too_many, collect_room, collect_light, delivered}
@@ -40,18 +39,6 @@ collect-n-requires c =
       collect_room s.both s.sign.0 s.a.now s.b.now (length s.work.now) (length s.out.now) _ c.in-Ok.ensures _ c.in_default.ensures grown.new.work
           grown.auto.work grown.result grown.ensures c.if-work-s.false,
       collect_light s.both s.sign.0 s.a.now s.b.now (length s.work.now)
-          (length s.out.now) _ c.in-Ok.ensures _ c.in_default.ensures grown.new.work grown.auto.work grown.result grown.ensures c.if-work-s.false,
-    )
-
-pub deliver-requires : goal.deliver-requires
-deliver-requires c =
-    let s = c.args in
-    let grown = c.append_all-s in
-    omega (
-      arith,
-      c.collect-n.ensures.count,
-      c.collect-n.auto.work,
-      collect_room s.both s.sign.0 s.a.now s.b.now (length s.work.now)
           (length s.out.now) _ c.in-Ok.ensures _ c.in_default.ensures grown.new.work grown.auto.work grown.result grown.ensures c.if-work-s.false,
     )
 

@@ -20,12 +20,6 @@ slice_bounds-copy-end c =
     let line = c.put_line-len in
     sym (length-take-le line.result line.new.s (stored_inside (refused_line c.args.refusal) (omega arith) line.ensures))
 
-pub copy-requires : goal.copy-requires
-copy-requires c =
-    let line = c.put_line-len in
-    let inside = stored_inside (refused_line c.args.refusal) (omega arith) line.ensures in
-    omega (arith, length-take-le line.result line.new.s inside, c.if-out-len.false)
-
 pub returns : goal.returns
 returns c =
     told_line c.args.out.now c.args.refusal _ _ _ c.put_line-len.ensures _ _ c.if-out-len.false

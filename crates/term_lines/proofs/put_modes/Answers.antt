@@ -5,7 +5,6 @@ use Prim.Native.Nat.{ℕ, ◌+◌, ◌≤◌}
 use native.Mathlib.Omega.{arith}
 use lib.ListN.{length, length-set}
 use Rattle.modes.specs.Words.{bit, lowest_mode}
-use Rattle.modes.proofs.Lowest.{less_lt}
 use Rattle.decimals.specs.Decimal.{field}
 use Rattle.term_lines.proofs.Modes.{Writing, writing_starts, writing_ends, writing_room, writing_goes}
 use Rattle.term_lines.proofs.put_modes.Goals as goal
@@ -29,19 +28,10 @@ overflow_add-end c =
     let room = mode_room _ _ _ _ c.requires c.loop-rest.invariant.0 c.loop-rest-test.true c.loop-rest.invariant.1 in
     record { fits = omega (arith, room, c.loop-rest.invariant.1) }
 
-pub lowest_mode-requires : goal.lowest_mode-requires
-lowest_mode-requires c = tt
-
 pub put_field-end-requires : goal.put_field-end-requires
 put_field-end-requires c =
     let room = mode_room _ _ _ _ c.requires c.loop-rest.invariant.0 c.loop-rest-test.true c.loop-rest.invariant.1 in
     let v = c.loop-rest in rw (c.lowest_mode.ensures, length-set v.s v.end 32) room
-
-pub overflow_sub-rest : goal.overflow_sub-rest
-overflow_sub-rest c = omega arith
-
-pub loop-rest-smaller : goal.loop-rest-smaller
-loop-rest-smaller c = less_lt c.loop-rest.rest (omega arith)
 
 pub loop-rest-preserved : goal.loop-rest-preserved
 loop-rest-preserved c =
@@ -51,9 +41,6 @@ loop-rest-preserved c =
     let v = c.loop-rest in
     let next = writing_goes _ _ _ _ v.s v.end v.rest v.invariant.0 c.loop-rest-test.true _ _ in
     (next (omega (arith, c.requires)) (omega (arith, room)) (rw mode.ensures at put.ensures), put.auto.s ∙ length-set v.s v.end 32 ∙ v.invariant.1)
-
-pub shape_of-s : goal.shape_of-s
-shape_of-s c = c.loop-rest.invariant.1
 
 pub returns : goal.returns
 returns c =
