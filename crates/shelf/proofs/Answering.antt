@@ -13,13 +13,14 @@ use Rattle.modes.proofs.Refusals.{unless_so, unless_not}
 use Rattle.lent.specs.Bytes.{put, zeros}
 use Rattle.lent.proofs.Puts.{length_put}
 use Rattle.slots.specs.Half.{place_of, length_of, free_slot, gap_for, holding, without}
-use Rattle.shelf.specs.Requests.{Request, Put, Get, Drop, Told, Slot, Length, Done, Outcome, unchanged, put_refusal, slot_refusal, get_refusal, record_in, on_half, room_of, Leaves}
+use Rattle.shelf.specs.Requests.{Request, Put, Get, Drop, Shelved, Slot, Length, Done, Outcome, unchanged, room_of, Leaves}
+use Rattle.shelf.specs.Requests.{put_refusal, slot_refusal, get_refusal, record_in, on_half}
 use Rattle.shelf.specs.Steps.{By, half_of, shelf_refusal, in_shelf, step}
 use Rattle.shelf.proofs.Halves.{shelf_taken}
 use Rattle.shelf.proofs.Refusals.{refusal_on}
 
 -- what is refused leaves the bytes as they were, and zeros in the output
-refused_leaves : (o : Outcome) (room : ℕ) (l : List ℕ) (r : Refusal) (x : Result Told Refusal) (out : List ℕ) → o ≡ unchanged room l r → x ≡ Err r
+refused_leaves : (o : Outcome) (room : ℕ) (l : List ℕ) (r : Refusal) (x : Result Shelved Refusal) (out : List ℕ) → o ≡ unchanged room l r → x ≡ Err r
     → out ≡ zeros room → Leaves o x out l
 refused_leaves o room l r x out e ex eo = rw e (record { answer = ex; output = eo; bytes = refl })
 
@@ -31,7 +32,7 @@ on_refused (Put a) h r e = unless_so (put_refusal h a) _ _ r e
 on_refused (Get i room) h r e = unless_so (get_refusal h i room) _ _ r e
 on_refused (Drop i) h r e = unless_so (slot_refusal h i) _ _ r e
 
-pub half_refuses : (q : Request) (h : List ℕ) (r : Refusal) (x : Result Told Refusal) (out : List ℕ) → refusal_on q h ≡ Err r → x ≡ Err r
+pub half_refuses : (q : Request) (h : List ℕ) (r : Refusal) (x : Result Shelved Refusal) (out : List ℕ) → refusal_on q h ≡ Err r → x ≡ Err r
     → out ≡ zeros (room_of q)
     → Leaves (on_half q h) x out h
 half_refuses q h r x out e ex eo = refused_leaves (on_half q h) (room_of q) h r x out (on_refused q h r e) ex eo
@@ -94,6 +95,6 @@ pub step_taken : (p : ℕ) (q : Request) (s : List ℕ) → p < 2 → length s �
 unfolding step
 step_taken p q s l size = unless_not (shelf_refusal p (length s)) _ _ (shelf_taken p (length s) l size)
 
-pub shelf_refuses : (p : ℕ) (q : Request) (s : List ℕ) (r : Refusal) (x : Result Told Refusal) (out : List ℕ) → shelf_refusal p (length s) ≡ Err r
+pub shelf_refuses : (p : ℕ) (q : Request) (s : List ℕ) (r : Refusal) (x : Result Shelved Refusal) (out : List ℕ) → shelf_refusal p (length s) ≡ Err r
     → x ≡ Err r → out ≡ zeros (room_of q) → Leaves (step (By p q) s) x out s
 shelf_refuses p q s r x out e ex eo = refused_leaves _ (room_of q) s r x out (step_refused p q s r e) ex eo

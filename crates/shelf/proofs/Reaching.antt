@@ -11,7 +11,7 @@ use Rattle.modes.specs.declared.Refusal.{Refusal}
 use Rattle.modes.proofs.Refusals.{not_refused}
 use Rattle.lent.specs.Bytes.{put}
 use Rattle.slots.proofs.Lending.{lent_size}
-use Rattle.shelf.specs.Requests.{Request, Get, Told, Outcome, on_half, Leaves}
+use Rattle.shelf.specs.Requests.{Request, Get, Shelved, Outcome, on_half, Leaves}
 use Rattle.shelf.specs.Steps.{By, half_of, shelf_refusal, step}
 use Rattle.shelf.specs.Placing.{start_of}
 use Rattle.shelf.proofs.Halves.{half_size, put_same, taken_shelf}
@@ -42,7 +42,7 @@ module _ (p : ℕ) (s : List ℕ) (start : ℕ) (e : Ok start ≡ start_of p (le
   -- the bytes k are the party's half
   module _ (k : List ℕ) (half : k ≡ half_of p s) where
     -- what a half leaves, the shelf leaves
-    shelf_leaves : (q : Request) (x : Result Told Refusal) (out h : List ℕ) → Leaves (on_half q k) x out h
+    shelf_leaves : (q : Request) (x : Result Shelved Refusal) (out h : List ℕ) → Leaves (on_half q k) x out h
         → Leaves (step (By p q) s) x out (put s (32768 * p) h)
     shelf_leaves q x out h g =
         let same = ap (on_half q) half in
@@ -53,7 +53,8 @@ module _ (p : ℕ) (s : List ℕ) (start : ℕ) (e : Ok start ≡ start_of p (le
         })
 
   -- a half that comes back between the bytes before it and those past it
-  pub lent_leaves : (q : Request) (x : Result Told Refusal) (out before from k h : List ℕ) → before ≡ take start s → from ≡ drop start s → k ≡ take 32768 from
+  pub lent_leaves : (q : Request) (x : Result Shelved Refusal) (out before from k h : List ℕ)
+      → before ≡ take start s → from ≡ drop start s → k ≡ take 32768 from
       → Leaves (on_half q k) x out h → Leaves (step (By p q) s) x out (before ++ (h ++ drop 32768 from))
   unfolding half_of put
   lent_leaves q x out before from k h eb ef ek g =
@@ -63,7 +64,8 @@ module _ (p : ℕ) (s : List ℕ) (start : ℕ) (e : Ok start ≡ start_of p (le
       rw back (shelf_leaves k half q x out h g)
 
   -- a get leaves the shelf as it was
-  pub got_leaves : (i room : ℕ) (x : Result Told Refusal) (out k : List ℕ) → k ≡ mid_of start (start + 32768 - start) s → Leaves (on_half (Get i room) k) x out k
+  pub got_leaves : (i room : ℕ) (x : Result Shelved Refusal) (out k : List ℕ) → k ≡ mid_of start (start + 32768 - start) s
+      → Leaves (on_half (Get i room) k) x out k
       → Leaves (step (By p (Get i room)) s) x out s
   unfolding half_of
   got_leaves i room x out k ek g =

@@ -17,7 +17,8 @@ use Rattle.record.specs.Refusals.{refusal_of}
 use Rattle.record.proofs.Accepted.{accepted_laid}
 use Rattle.slots.specs.Half.{place_of, length_of, is_free, is_whole, free_slot, gap_for}
 use Rattle.slots.proofs.Wholes.{inside_half}
-use Rattle.shelf.specs.Requests.{Request, Put, Get, Drop, no_such_party, damaged_half, no_free_slot, no_gap, no_such_slot, put_refusal, slot_refusal, get_refusal}
+use Rattle.shelf.specs.Requests.{Request, Put, Get, Drop, put_refusal, slot_refusal, get_refusal}
+use Rattle.shelf.specs.Requests.{no_such_party, damaged_half, no_free_slot, no_gap, no_such_slot}
 use Rattle.shelf.specs.Steps.{shelf_refusal}
 use Rattle.shelf.specs.Placing.{start_of, used_slot, Placeable}
 

@@ -24,9 +24,11 @@ use Rattle.shelf.specs.Runs.{run, after_all, Whole, spares}
 use Rattle.shelf.proofs.Halves.{half_size, half_zeros, put_same, taken_shelf}
 use Rattle.shelf.proofs.Refusals.{refusal_on, no_party, slot_used, placed_long, put_full, put_crowded}
 use Rattle.shelf.proofs.Answering.{on_refused, step_refused, step_taken}
-use Rattle.shelf.proofs.Told.{one_refuses, heard, unrefused, refused, step_undamaged, twenty, twenty_one}
+use Rattle.shelf.proofs.Told.{one_refuses, heard, unrefused, refused, step_undamaged}
+use Rattle.shelf.proofs.Numbers.{twenty, twenty_one}
 use Rattle.shelf.proofs.OnHalf.{accepted_put, put_change, get_keeps, drop_change, whole_kept, clean_kept}
 use Rattle.shelf.proofs.Held.{Held, put_held, held_on, get_held}
+use Rattle.shelf.proofs.Unique.{slot_one}
 use Rattle.shelf.proofs.TwoRuns.{either_step, step_length, own_half, half_left}
 
 -- ---- calls that change nothing
@@ -116,10 +118,6 @@ pub record Holds (p i : ℕ) (a s : List ℕ) : Type 0 where
   pub size : length s ≡ 65536
   pub held : Held (half_of p s) i a
 
--- the slot that a put names
-slot_is : (i j : ℕ) → Slot i ≡ Slot j → i ≡ j
-slot_is i j e = cc
-
 -- A PUT that is not refused leaves its bytes in the slot that it names
 pub put_holds : (p : ℕ) (a s : List ℕ) (i : ℕ) → (step (By p (Put a)) s).answer ≡ Ok (Slot i) → Holds p i a (step (By p (Put a)) s).bytes
 put_holds p a s i ok =
@@ -127,7 +125,7 @@ put_holds p a s i ok =
     record {
       party = d.low;
       size = step_length (By p (Put a)) s ∙ d.size;
-      held = rw (slot_is _ _ d.is, own_half p (Put a) s d.low d.size)
+      held = rw (slot_one _ _ d.is, own_half p (Put a) s d.low d.size)
           (put_held (half_of p s) a (half_size p s d.low d.size) d.fine);
     }
 
@@ -246,7 +244,7 @@ pub placed_lowest : (p : ℕ) (a s : List ℕ) (i : ℕ) → (step (By p (Put a)
     → Placed (half_of p s) (half_of p (step (By p (Put a)) s).bytes) i a
 placed_lowest p a s i ok =
     let d = unrefused p (Put a) s (Slot i) ok in
-    rw (slot_is _ _ d.is, own_half p (Put a) s d.low d.size) (half_placed (half_of p s) a (half_size p s d.low d.size) d.fine)
+    rw (slot_one _ _ d.is, own_half p (Put a) s d.low d.size) (half_placed (half_of p s) a (half_size p s d.low d.size) d.fine)
 
 -- ---- nothing is left in the gaps
 

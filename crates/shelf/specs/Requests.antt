@@ -14,14 +14,14 @@ pub data Request : Type 0 where
   Get : ℕ → ℕ → Request
   Drop : ℕ → Request
 
--- what is told of a call that is not refused: of a put its slot, of a get the length of the copy, of a drop or a clear that it is done
-pub data Told : Type 0 where
-  Slot : ℕ → Told
-  Length : ℕ → Told
-  Done : Told
+-- what a call comes back with that is not refused: a put with its slot, a get with the length of the copy, a drop and a clear with nothing more
+pub data Shelved : Type 0 where
+  Slot : ℕ → Shelved
+  Length : ℕ → Shelved
+  Done : Shelved
 
--- a call's answer, by what its value x tells
-abbrev pub tells : {A : Type 0} → (A → Told) → Result A Refusal → Result Told Refusal
+-- a call's answer as an outcome has it: of its value x, if it is not refused, `told x`
+abbrev pub tells : {A : Type 0} → (A → Shelved) → Result A Refusal → Result Shelved Refusal
 tells told (Ok x) = Ok (told x)
 tells told (Err r) = Err r
 
@@ -42,7 +42,7 @@ no_such_slot = refusal NoSuchSlot 0 0
 
 -- a call's answer, its whole output, and all bytes of the half, or of the shelf, after it
 pub record Outcome : Type 0 where
-  pub answer : Result Told Refusal
+  pub answer : Result Shelved Refusal
   pub output : List ℕ
   pub bytes : List ℕ
 
@@ -106,7 +106,7 @@ room_of (Get i room) = room
 room_of (Drop i) = 0
 
 -- an answer, an output and the bytes after a call are those of the outcome
-pub record Leaves (o : Outcome) (r : Result Told Refusal) (out after : List ℕ) : Type 0 where
+pub record Leaves (o : Outcome) (r : Result Shelved Refusal) (out after : List ℕ) : Type 0 where
   pub answer : r ≡ o.answer
   pub output : out ≡ o.output
   pub bytes : after ≡ o.bytes

@@ -3,7 +3,7 @@ use Rattle.std.specs.Prelude.{◌≡◌, ℕ, Bool, true, false, cond, ◌&&◌,
 use Rattle.tally.specs.Ranks.{chosen}
 use Rattle.slots.specs.Half.{is_whole}
 use Rattle.modes.specs.declared.Refusal.{Refusal}
-use Rattle.shelf.specs.Requests.{Put, Get, Drop, Told, Outcome}
+use Rattle.shelf.specs.Requests.{Put, Get, Drop, Shelved, Outcome}
 use Rattle.shelf.specs.Steps.{Call, Clear, By, half_of, step}
 
 -- the outcome of each call, and the shelf after all of them
@@ -26,7 +26,7 @@ own_calls p = chosen (concerns p)
 
 -- what party p sees of a call: the answer, the output and its half after it
 pub record Seen : Type 0 where
-  pub answer : Result Told Refusal
+  pub answer : Result Shelved Refusal
   pub output : List ℕ
   pub half : List ℕ
 
