@@ -24,7 +24,8 @@ pub enum Blocked {
     Occupied(u64),
 }
 
-// What a term makes of a word: a word with a sign; or nothing, and why.
+// What a term makes of a word: a word with a sign; or nothing, and why. No `Result`, since nothing is an answer like another;
+// the name is zixy's.
 #[derive(Clone, Copy)]
 pub enum ApplyResult {
     Applied(u64, Sign),
@@ -43,7 +44,7 @@ pub fn count_before_each_set_bit(word: u64, at: u64) -> u32
     count_by_digits(word, at)
 }
 
-// The same, one set bit of `at` after the other.
+// The same, one set bit of `at` after the other. A `while`, since it takes as many steps as `at` has bits.
 fn count_one_by_one(word: u64, at: u64) -> u32
     ensures { result ≡ exchanges 64 (bit word) (bit at) }
 {
@@ -67,6 +68,7 @@ fn count_by_digits(word: u64, at: u64) -> u32
     let mut left = word;
     let mut count: u32 = 0;
     let mut weight: u32 = 1;
+    // a `while`, since the weight doubles
     while weight < 64 {
         let odd = odd_before(left);
         count += weight * u64::count_ones(at & odd);

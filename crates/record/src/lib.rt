@@ -305,7 +305,7 @@ pub fn finish(out: &mut [u8], m: u64, n: usize, branches: u64) -> Written
     Written { len, branches }
 }
 
-// How many of the n terms stand before t, found by halving.
+// How many of the n terms stand before t, found by halving: std's search is of a slice, and the terms lie in three columns.
 pub fn count_before(s: &[u8], n: usize, t: Term) -> usize
     requires { Holds s.now n × Ascending (terms_in s.now n) }
     ensures { result ≡ count_if (earlier t) (terms_in s.now n) }

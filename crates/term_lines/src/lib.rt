@@ -30,6 +30,7 @@ fn put_modes(s: &mut [u8], at: usize, word: u64, kind: u8) -> usize
 {
     let mut end = at;
     let mut rest = word;
+    // a `while`, since it takes as many steps as the word has modes
     while rest != 0 {
         s[end] = b' ';
         end = decimals::put_field(s, end + 1, modes::lowest_mode(rest), kind);
