@@ -5,12 +5,25 @@ use Prim.Native.Nat.{ℕ, zero, suc, ◌+◌, ◌*◌, ◌/◌, ◌%◌, ◌^◌
 use native.Mathlib.Omega.{arith}
 use native.Mathlib.Nat.{zero-add, suc-add, mul-add, mul_assoc, pow-suc, pow-succ', div-one, div-div-eq-div-mul, add_assoc}
 use lib.ListN.{length, get_or}
+use Rattle.std.specs.Int.{w64, to_le_bytes}
 use Rattle.lent.specs.Bytes.{bytes, num}
 
 pub length_bytes : (n x : ℕ) → length (bytes n x) ≡ n
 unfolding bytes
 length_bytes zero x = refl
 length_bytes (suc n) x = ap suc (length_bytes n (x / 256))
+
+-- the eight bytes of x, the low byte first, as std's `to_le_bytes` gives them
+pub eight_bytes : (x : ℕ) → to_le_bytes w64 x ≡ bytes 8 x
+unfolding bytes
+eight_bytes x = rw (
+  div-div-eq-div-mul x 256 256,
+  div-div-eq-div-mul x 65536 256,
+  div-div-eq-div-mul x 16777216 256,
+  div-div-eq-div-mul x 4294967296 256,
+  div-div-eq-div-mul x 1099511627776 256,
+  div-div-eq-div-mul x 281474976710656 256,
+)
 
 -- the n bytes of x make x, where x has no more
 pub num_bytes : (n x : ℕ) → x < 256 ^ n → num (bytes n x) ≡ x

@@ -1,9 +1,9 @@
 -- Numbers read from a list of bytes, at any width: what was stored is read back, what stands beside a store is kept.
-use mathlib.Core.Path.{◌≡◌, sym, ap, ◌∙◌}
+use mathlib.Core.Path.{◌≡◌, refl, sym, ap, ◌∙◌}
 use mathlib.Core.List.{List, [], ◌∷◌, ◌++◌}
 use Prim.Native.Nat.{ℕ, zero, suc, ◌+◌, ◌*◌, ◌/◌, ◌^◌, ◌≤◌, ◌<◌}
 use native.Mathlib.Omega.{arith}
-use native.Mathlib.Nat.{zero-add, suc-add}
+use native.Mathlib.Nat.{zero-add, suc-add, add_assoc}
 use native.Mathlib.Numerals.{add-one}
 use lib.ListN.{length, get_or, take, drop, length-drop}
 use lib.Seq.{drop-cons, drop-drop, drop_at, take_at, take-nil, take-add, length-take-le, get_or-drop}
@@ -20,6 +20,15 @@ num_at_is a b c o n p q = rw (drop_at a (b ++ c) o p, take_at b c n q)
 pub num_step : (n : ℕ) (l : List ℕ) (o : ℕ) → o < length l → num_at (suc n) l o ≡ get_or l o 0 + 256 * num_at n l (o + 1)
 unfolding num_at num
 num_step n l o h = rw (drop-cons l o 0 h, add-one)
+
+-- no bytes
+pub num_none : (l : List ℕ) (o : ℕ) → num_at 0 l o ≡ 0
+unfolding num_at num
+num_none l o = refl
+
+-- of the bytes from o on, the k-th and those past it
+pub num_along : (n k : ℕ) (l : List ℕ) (o : ℕ) → o + k < length l → num_at (suc n) l (o + k) ≡ get_or l (o + k) 0 + 256 * num_at n l (o + suc k)
+num_along n k l o h = rw (num_step n l (o + k) h, add_assoc o k 1, add-one)
 
 -- in two parts
 pub num_split : (n m : ℕ) (l : List ℕ) (o : ℕ) → o + n ≤ length l → num_at (n + m) l o ≡ num_at n l o + 256 ^ n * num_at m l (o + n)

@@ -8,18 +8,12 @@ ghost use Rattle.lent.specs.Outputs.{Gives, refused_output};
 
 use modes::{Refusal, Term, Written};
 
-fn wide(x: u8) -> usize
-    ensures { (result ≡ x) × (result < 256) }
-{
-    x as usize
-}
-
-// The number of four bytes at `at`. Bytes as products compile to one load.
+// The number of four bytes at `at`.
 pub fn half(s: &[u8], at: usize) -> usize
     requires { at + 4 ≤ length s.now }
     ensures { (result ≡ half_at s.now at) × (result < 2 ^ 32) }
 {
-    wide(s[at]) + 256 * (wide(s[at + 1]) + 256 * (wide(s[at + 2]) + 256 * wide(s[at + 3])))
+    u32::from_le_bytes([s[at], s[at + 1], s[at + 2], s[at + 3]]) as usize
 }
 
 // The number of eight bytes at `at`.
@@ -27,21 +21,24 @@ pub fn word(s: &[u8], at: usize) -> u64
     requires { at + 8 ≤ length s.now }
     ensures { result ≡ word_at s.now at }
 {
-    (half(s, at) as u64) + 4294967296 * (half(s, at + 4) as u64)
+    u64::from_le_bytes([
+        s[at],
+        s[at + 1],
+        s[at + 2],
+        s[at + 3],
+        s[at + 4],
+        s[at + 5],
+        s[at + 6],
+        s[at + 7],
+    ])
 }
 
-// The four low bytes of x to `at`. Bytes as quotients compile to one store.
+// The four low bytes of x to `at`.
 pub fn put_half(s: &mut [u8], at: usize, x: usize)
     requires { at + 4 ≤ length s.old }
     ensures { s.new ≡ put_half s.old at x }
 {
-    let x1 = x / 256;
-    let x2 = x1 / 256;
-    let x3 = x2 / 256;
-    s[at] = (x % 256) as u8;
-    s[at + 1] = (x1 % 256) as u8;
-    s[at + 2] = (x2 % 256) as u8;
-    s[at + 3] = (x3 % 256) as u8;
+    copy(s, at, &x.to_le_bytes()[..4]);
 }
 
 // The eight bytes of x to `at`.
@@ -49,8 +46,7 @@ pub fn put_word(s: &mut [u8], at: usize, x: u64)
     requires { at + 8 ≤ length s.old }
     ensures { s.new ≡ put_word s.old at x }
 {
-    put_half(s, at, x as usize);
-    put_half(s, at + 4, (x / 4294967296) as usize);
+    copy(s, at, &x.to_le_bytes());
 }
 
 // The term whose row stands at `at`.

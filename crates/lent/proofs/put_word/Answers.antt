@@ -1,9 +1,9 @@
--- `lent::put_word` meets its contract: the number is stored in two parts.
-use native.Mathlib.Omega.{arith}
-use Rattle.lent.proofs.NumbersAt.{put_split}
+-- `lent::put_word` meets its contract: the bytes of the number stand at their place.
+use mathlib.Core.Path.{◌∙◌, ap}
+use Rattle.lent.specs.Bytes.{put}
+use Rattle.lent.proofs.Numbers.{eight_bytes}
 use Rattle.lent.proofs.put_word.Goals as goal
 
 pub returns : goal.returns
 returns c =
-    rw (c.put_half-2.ensures, c.put_half.ensures)
-    (put_split 4 4 c.args.s.now c.args.at c.args.x (omega (arith, c.requires)))
+    c.copy.ensures ∙ ap (put c.args.s.now c.args.at) (c.to_le_bytes.ensures ∙ eight_bytes c.args.x)

@@ -1,8 +1,23 @@
--- `lent::word` meets its contract: the number is read in two parts.
+-- `lent::word` meets its contract: the number is read byte by byte.
+use Prim.Native.Nat.{◌+◌}
 use native.Mathlib.Omega.{arith}
-use Rattle.lent.proofs.NumbersAt.{num_split}
+use Rattle.lent.proofs.NumbersAt.{num_step, num_along, num_none}
 use Rattle.lent.proofs.word.Goals as goal
 
 pub returns : goal.returns
 returns c =
-    omega (arith, num_split 4 4 c.args.s.now c.args.at (omega arith))
+    let l = c.args.s.now in
+    let o = c.args.at in
+    omega (
+      arith,
+      c.from_le_bytes.ensures,
+      num_step 7 l o (omega arith),
+      num_along 6 1 l o (omega arith),
+      num_along 5 2 l o (omega arith),
+      num_along 4 3 l o (omega arith),
+      num_along 3 4 l o (omega arith),
+      num_along 2 5 l o (omega arith),
+      num_along 1 6 l o (omega arith),
+      num_along 0 7 l o (omega arith),
+      num_none l (o + 8),
+    )
