@@ -54,12 +54,7 @@ num_below (b ∷ bs) h =
     let q : num bs < 256 ^ length bs = num_below bs (λ k. h (suc k)) in
     omega arith
 
--- a number of n + m bytes is one of n bytes and, above it, one of m
-pub bytes_append : (n m x : ℕ) → bytes (n + m) x ≡ bytes n x ++ bytes m (x / 256 ^ n)
-unfolding bytes
-bytes_append zero m x = rw (zero-add, div-one)
-bytes_append (suc n) m x = rw (suc-add, pow-succ', ← div-div-eq-div-mul) (ap (λ (l : List ℕ). x % 256 ∷ l) (bytes_append n m (x / 256)))
-
+-- the number of bytes in two parts
 pub num_append : (a b : List ℕ) → num (a ++ b) ≡ num a + 256 ^ length a * num b
 unfolding num
 num_append [] b = omega arith

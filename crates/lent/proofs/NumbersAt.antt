@@ -30,21 +30,10 @@ num_none l o = refl
 pub num_along : (n k : ℕ) (l : List ℕ) (o : ℕ) → o + k < length l → num_at (suc n) l (o + k) ≡ get_or l (o + k) 0 + 256 * num_at n l (o + suc k)
 num_along n k l o h = rw (num_step n l (o + k) h, add_assoc o k 1, add-one)
 
--- in two parts
-pub num_split : (n m : ℕ) (l : List ℕ) (o : ℕ) → o + n ≤ length l → num_at (n + m) l o ≡ num_at n l o + 256 ^ n * num_at m l (o + n)
-unfolding num_at
-num_split n m l o h =
-    let e : length (take n (drop o l)) ≡ n = length-take-le n (drop o l) (simp length-drop (omega arith)) in
-    rw (take-add n m (drop o l), num_append, e, drop-drop n o l)
-
 part_of : (p k : ℕ) (l : List ℕ) → drop p (take (p + k) l) ≡ take k (drop p l)
 part_of zero k l = rw zero-add
 part_of (suc p) k [] = rw suc-add (sym (take-nil k))
 part_of (suc p) k (x ∷ l) = rw suc-add (part_of p k l)
-
--- a number stored in two parts
-pub put_split : (n m : ℕ) (l : List ℕ) (o x : ℕ) → o ≤ length l → put (put l o (bytes n x)) (o + n) (bytes m (x / 256 ^ n)) ≡ put l o (bytes (n + m) x)
-put_split n m l o x h = rw bytes_append (put_join l (bytes n x) (bytes m (x / 256 ^ n)) o (o + n) h (rw length_bytes))
 
 -- beside a store
 module _ (l : List ℕ) (o : ℕ) (bs : List ℕ) (fits : o + length bs ≤ length l) where
