@@ -3,7 +3,7 @@ use mathlib.Core.Path.{◌≡◌, refl, ap}
 use mathlib.Core.List.{List, [], ◌∷◌, ◌++◌}
 use Prim.Native.Nat.{ℕ, zero, suc, ◌+◌, ◌*◌, ◌/◌, ◌%◌, ◌^◌, ◌<◌}
 use native.Mathlib.Omega.{arith}
-use native.Mathlib.Nat.{zero-add, suc-add, mul-add, mul_assoc, pow-suc, pow-succ', div-one, div-div-eq-div-mul, add_assoc}
+use native.Mathlib.Nat.{mul-add, mul_assoc, pow-suc, pow-succ', div-div-eq-div-mul, add_assoc}
 use lib.ListN.{length, get_or}
 use Rattle.std.specs.Int.{w64, to_le_bytes}
 use Rattle.lent.specs.Bytes.{bytes, num}

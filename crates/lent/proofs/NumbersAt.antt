@@ -1,15 +1,15 @@
 -- Numbers read from a list of bytes, at any width: what was stored is read back, what stands beside a store is kept.
 use mathlib.Core.Path.{◌≡◌, refl, sym, ap, ◌∙◌}
 use mathlib.Core.List.{List, [], ◌∷◌, ◌++◌}
-use Prim.Native.Nat.{ℕ, zero, suc, ◌+◌, ◌*◌, ◌/◌, ◌^◌, ◌≤◌, ◌<◌}
+use Prim.Native.Nat.{ℕ, zero, suc, ◌+◌, ◌*◌, ◌^◌, ◌≤◌, ◌<◌}
 use native.Mathlib.Omega.{arith}
 use native.Mathlib.Nat.{zero-add, suc-add, add_assoc}
 use native.Mathlib.Numerals.{add-one}
 use lib.ListN.{length, get_or, take, drop, length-drop}
-use lib.Seq.{drop-cons, drop-drop, drop_at, take_at, take-nil, take-add, length-take-le, get_or-drop}
+use lib.Seq.{drop-cons, drop_at, take_at, take-nil, length-take-le, get_or-drop}
 use Rattle.lent.specs.Bytes.{bytes, num, num_at, put}
-use Rattle.lent.proofs.Numbers.{length_bytes, num_bytes, bytes_num, bytes_append, num_below, num_append}
-use Rattle.lent.proofs.Puts.{length_put, take_put, drop_put, byte_before, byte_after, put_join}
+use Rattle.lent.proofs.Numbers.{length_bytes, num_bytes, bytes_num, num_below}
+use Rattle.lent.proofs.Puts.{length_put, take_put, drop_put, byte_before, byte_after}
 
 -- the number that stands after the first part of a list
 pub num_at_is : (a b c : List ℕ) (o n : ℕ) → length a ≡ o → length b ≡ n → num_at n (a ++ (b ++ c)) o ≡ num b

@@ -158,13 +158,7 @@ pub fn read_term(s: &[u8], n: usize, i: usize) -> Term
 pub fn is_before(t: Term, u: Term) -> bool
     ensures { result ≡ before t u }
 {
-    if t.ann < u.ann {
-        return true;
-    }
-    if t.ann != u.ann {
-        return false;
-    }
-    t.cre < u.cre
+    (t.ann, t.cre) < (u.ann, u.cre)
 }
 
 // May t stand after `last`? Anything may stand first.
