@@ -88,10 +88,10 @@ unfolding shelf_refusal or_else
 shelf_taken p n low whole = rw (lt-ltb p 2 low, eq-eqb n 65536 whole)
 
 -- and whatever is not refused is such a party and such a shelf
-pub taken_shelf : (p n : ℕ) → (shelf_refusal p n).number ≡ 0 → (p < 2) × (n ≡ 65536)
+pub taken_shelf : (p n : ℕ) → shelf_refusal p n ≡ none → (p < 2) × (n ≡ 65536)
 unfolding shelf_refusal
 taken_shelf p n z =
     let both = neither (need (ltb p 2) no_such_party) (need (eqb n 65536) damaged_half) z in
-    let party = needed (ltb p 2) no_such_party (λ e. omega (arith, e)) both.0 in
-    let size = needed (eqb n 65536) damaged_half (λ e. omega (arith, e)) both.1 in
+    let party = needed (ltb p 2) no_such_party both.0 in
+    let size = needed (eqb n 65536) damaged_half both.1 in
     (ltb-true p 2 party, eqb-true n 65536 size)

@@ -5,13 +5,13 @@ use mathlib.Core.List.{List, ◌++◌}
 use Prim.Native.Nat.{ℕ, ◌-◌, ◌≤◌, ◌<◌}
 use lib.ListN.{length}
 use borrow.Author.Tests.{eq-eqb}
-use Rattle.modes.specs.declared.Refusal.{Refusal}
+use Rattle.std.specs.Prelude.{Ok}
 use Rattle.modes.specs.Answers.{none}
 use Rattle.lent.specs.Bytes.{zeros}
 use Rattle.slots.specs.Half.{length_of, is_free, is_whole, free_slot}
 use Rattle.slots.proofs.Wholes.{slot_free}
 use Rattle.slots.proofs.Kept.{Same, same_free, kept, held_length, held_bytes, held_used, held_whole}
-use Rattle.shelf.specs.Requests.{Request, Put, Get, Drop, put_refusal, record_in, on_half}
+use Rattle.shelf.specs.Requests.{Request, Put, Get, Drop, Length, put_refusal, record_in, on_half}
 use Rattle.shelf.specs.Steps.{By}
 use Rattle.shelf.specs.Runs.{spares}
 use Rattle.shelf.proofs.Refusals.{slot_held, get_fits}
@@ -27,7 +27,7 @@ pub record Held (h : List ℕ) (i : ℕ) (a : List ℕ) : Type 0 where
   pub bytes : record_in h i ≡ a
 
 -- what is put is held
-pub put_held : (h a : List ℕ) → length h ≡ 32768 → (put_refusal h a).number ≡ 0 → Held (on_half (Put a) h).bytes (free_slot h) a
+pub put_held : (h a : List ℕ) → length h ≡ 32768 → put_refusal h a ≡ none → Held (on_half (Put a) h).bytes (free_slot h) a
 put_held h a size z =
     let c = put_change h a z size in
     let long = put_long h a z in
@@ -67,8 +67,7 @@ held_on p i (Drop j) h a size e o =
 
 -- and what is held is got
 pub get_held : (h : List ℕ) (i : ℕ) (a : List ℕ) (room : ℕ) → Held h i a → length a ≤ room
-    → on_half (Get i room) h ≡ record { answer = record { refusal = none; len = length a; slot = 0 }; output = a ++ zeros (room - length a); bytes = h }
+    → on_half (Get i room) h ≡ record { answer = Ok (Length (length a)); output = a ++ zeros (room - length a); bytes = h }
 get_held h i a room o fits =
-    let used = ap (λ (r : Refusal). r.number) (sym (slot_held h i true (sym o.whole) refl o.slot false (sym o.used) refl)) in
-    let taken = ap (λ (r : Refusal). r.number) (sym (get_fits h i room used (rw o.long fits))) in
+    let taken = get_fits h i room (slot_held h i o.whole o.slot o.used) (rw o.long fits) in
     get_is h i room taken ∙ rw (o.bytes, o.long)

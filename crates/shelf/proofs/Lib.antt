@@ -2,10 +2,11 @@ pub mod Halves
 pub mod RecordNumbers
 pub mod Refusals
 pub mod Answering
+pub mod Numbers
 pub mod Told
 pub mod OnHalf
 pub mod Reaching
 pub mod Held
+pub mod Unique
 pub mod TwoRuns
 pub mod Theorems
-pub mod Unique

@@ -7,8 +7,9 @@ use native.Mathlib.Omega.{arith}
 use lib.Dec.{ltb}
 use lib.ListN.{length}
 use borrow.Author.Tests.{ltb-true}
+use Rattle.modes.specs.Answers.{none}
 use Rattle.modes.specs.Refusals.{need, or_else}
-use Rattle.modes.proofs.Refusals.{neither, needed, by_number}
+use Rattle.modes.proofs.Refusals.{neither, needed, by_verdict}
 use Rattle.lent.specs.Bytes.{zeros}
 use Rattle.record.specs.Refusals.{refusal_of}
 use Rattle.record.proofs.Accepted.{accepted_laid}
@@ -22,19 +23,19 @@ use Rattle.shelf.proofs.Refusals.{refusal_on, slot_used}
 use Rattle.shelf.proofs.Answering.{on_refused, put_is, get_is, drop_is}
 
 -- what holds of the half as it was, and of what a request leaves that nothing refuses, holds of what the request leaves
-pub left_by : (q : Request) (h : List ℕ) (P : List ℕ → Type 0) → P h → ((refusal_on q h).number ≡ 0 → P (on_half q h).bytes) → P (on_half q h).bytes
-left_by q h P as_it_was taken = by_number (refusal_on q h) taken (λ n. rw (on_refused q h n) as_it_was)
+pub left_by : (q : Request) (h : List ℕ) (P : List ℕ → Type 0) → P h → (refusal_on q h ≡ none → P (on_half q h).bytes) → P (on_half q h).bytes
+left_by q h P as_it_was taken = by_verdict (refusal_on q h) taken (λ r e. rw (on_refused q h r e) as_it_was)
 
 -- ---- a put
 
 -- what a put asks for: a half that is not damaged, an accepted record, a free slot and a gap
 pub record Puttable (h a : List ℕ) : Type 0 where
   pub whole : is_whole h ≡ true
-  pub accepted : (refusal_of 1 a).number ≡ 0
+  pub accepted : refusal_of 1 a ≡ none
   pub slot : free_slot h < 16
   pub gap : gap_for h (length a) < 32768
 
-module _ (h a : List ℕ) (z : (put_refusal h a).number ≡ 0) where
+module _ (h a : List ℕ) (z : put_refusal h a ≡ none) where
   pub accepted_put : Puttable h a
   unfolding put_refusal
   accepted_put =
@@ -44,10 +45,10 @@ module _ (h a : List ℕ) (z : (put_refusal h a).number ≡ 0) where
       let second = neither (refusal_of 1 a) (or_else slot gap) first.1 in
       let last = neither slot gap second.1 in
       record {
-        whole = needed (is_whole h) damaged_half (λ e. omega (arith, e)) first.0;
+        whole = needed (is_whole h) damaged_half first.0;
         accepted = second.0;
-        slot = ltb-true _ _ (needed (ltb (free_slot h) 16) no_free_slot (λ e. omega (arith, e)) last.0);
-        gap = ltb-true _ _ (needed (ltb (gap_for h (length a)) 32768) no_gap (λ e. omega (arith, e)) last.1);
+        slot = ltb-true _ _ (needed (ltb (free_slot h) 16) no_free_slot last.0);
+        gap = ltb-true _ _ (needed (ltb (gap_for h (length a)) 32768) no_gap last.1);
       }
 
   -- the record has its header
@@ -69,7 +70,7 @@ get_keeps i room h = left_by (Get i room) h (λ k. k ≡ h) refl (λ z. ap (λ (
 
 -- ---- a drop
 
-pub drop_change : (h : List ℕ) (i : ℕ) → (slot_refusal h i).number ≡ 0 → length h ≡ 32768
+pub drop_change : (h : List ℕ) (i : ℕ) → slot_refusal h i ≡ none → length h ≡ 32768
     → Change h (on_half (Drop i) h).bytes i (place_of h i) (length_of h i) (zeros (length_of h i)) (zeros 32)
 drop_change h i z size =
     let u = slot_used h i z in

@@ -6,8 +6,9 @@ use Prim.Native.Nat.{ℕ, zero, suc, ◌≤◌, ◌<◌}
 use native.Mathlib.Omega.{arith}
 use lib.ListN.{length}
 use Rattle.modes.specs.declared.Refusal.{Refusal}
+use Rattle.std.specs.Prelude.{Ok, Err}
+use Rattle.modes.specs.Answers.{none}
 use Rattle.modes.specs.Every.{Every, none as nothing, more}
-use Rattle.modes.proofs.Refusals.{by_number}
 use Rattle.lent.specs.Bytes.{zeros}
 use Rattle.slots.specs.Half.{is_whole, free_slot, gap_for}
 use Rattle.slots.proofs.Wholes.{slot_free, room_so, gap_room}
@@ -15,49 +16,42 @@ use Rattle.slots.proofs.Kept.{byte_same, bytes_here, entry_here, held_place, dro
 use Rattle.slots.proofs.Lowest.{slots_below, none_free, all_used, some_free, rooms_below, no_room, no_gap_is, gap_starts}
 use Rattle.slots.specs.Gaps.{Clean}
 use Rattle.slots.proofs.Clean.{zeros_clean}
-use Rattle.shelf.specs.Requests.{Request, Put, Get, Drop, Outcome, no_such_party, no_free_slot, no_gap, unchanged, room_of, put_refusal, on_half}
+use Rattle.shelf.specs.Requests.{Request, Put, Get, Drop, Slot, Done, Outcome, no_such_party, no_free_slot, no_gap, unchanged, room_of, put_refusal, on_half}
 use Rattle.shelf.specs.Steps.{Call, Clear, By, half_of, shelf_refusal, step}
 use Rattle.shelf.specs.Outcomes.{number_of, gotten, Ready, Full, Crowded, Placed, Dropped}
 use Rattle.shelf.specs.Placing.{Placeable}
 use Rattle.shelf.specs.Runs.{run, after_all, Whole, spares}
 use Rattle.shelf.proofs.Halves.{half_size, half_zeros, put_same, taken_shelf}
 use Rattle.shelf.proofs.Refusals.{refusal_on, no_party, slot_used, placed_long, put_full, put_crowded}
-use Rattle.shelf.proofs.Answering.{on_refused, put_is, step_refused, step_taken}
-use Rattle.shelf.proofs.Told.{Heard, heard, unrefused, step_tells, step_undamaged, twenty, twenty_one}
+use Rattle.shelf.proofs.Answering.{on_refused, step_refused, step_taken}
+use Rattle.shelf.proofs.Told.{one_refuses, heard, unrefused, refused, step_undamaged}
+use Rattle.shelf.proofs.Numbers.{twenty, twenty_one}
 use Rattle.shelf.proofs.OnHalf.{accepted_put, put_change, get_keeps, drop_change, whole_kept, clean_kept}
 use Rattle.shelf.proofs.Held.{Held, put_held, held_on, get_held}
+use Rattle.shelf.proofs.Unique.{slot_one}
 use Rattle.shelf.proofs.TwoRuns.{either_step, step_length, own_half, half_left}
 
 -- ---- calls that change nothing
 
 -- what the half refuses, the shelf refuses, as it was
-half_refused : (p : ℕ) (q : Request) (s : List ℕ) → p < 2 → length s ≡ 65536 → ((refusal_on q (half_of p s)).number ≡ 0 → ⊥)
-    → step (By p q) s ≡ unchanged (room_of q) s (refusal_on q (half_of p s))
-half_refused p q s low size n = step_taken p q s low size ∙ rw (on_refused q (half_of p s) n, put_same p s low size)
+half_refused : (p : ℕ) (q : Request) (s : List ℕ) (r : Refusal) → p < 2 → length s ≡ 65536 → refusal_on q (half_of p s) ≡ Err r
+    → step (By p q) s ≡ unchanged (room_of q) s r
+half_refused p q s r low size e = step_taken p q s low size ∙ rw (on_refused q (half_of p s) r e, put_same p s low size)
 
 -- REFUSED: a call that is refused changes no byte of the shelf, of any length, and leaves zeros alone in its output
-pub refused_unchanged : (p : ℕ) (q : Request) (s : List ℕ) → (number_of (step (By p q) s) ≡ 0 → ⊥)
-    → step (By p q) s ≡ unchanged (room_of q) s (step (By p q) s).answer.refusal
-refused_unchanged p q s n =
-    by_number (shelf_refusal p (length s))
-    (λ z.
-    let (low, size) = taken_shelf p (length s) z in
-    told (refusal_on q (half_of p s)) (half_refused p q s low size (λ y. n (step_tells p q s low size ∙ y))))
-    (λ y. told (shelf_refusal p (length s)) (step_refused p q s y))
-  where
-    told : (r : Refusal) → step (By p q) s ≡ unchanged (room_of q) s r → step (By p q) s ≡ unchanged (room_of q) s (step (By p q) s).answer.refusal
-    told r e = e ∙ ap (unchanged (room_of q) s) (sym (ap (λ (o : Outcome). o.answer.refusal) e))
+pub refused_unchanged : (p : ℕ) (q : Request) (s : List ℕ) (r : Refusal) → (step (By p q) s).answer ≡ Err r → step (By p q) s ≡ unchanged (room_of q) s r
+refused_unchanged p q s r e =
+    one_refuses (shelf_refusal p (length s)) (refusal_on q (half_of p s)) r (refused p q s r e) (step_refused p q s r)
+    (λ z y. let (low, size) = taken_shelf p (length s) z in half_refused p q s r low size y)
 
 -- NO THIRD PARTY: whoever else asks is refused with 18
 pub no_third : (p : ℕ) (q : Request) (s : List ℕ) → 2 ≤ p → step (By p q) s ≡ unchanged (room_of q) s no_such_party
-no_third p q s l =
-    let e = no_party p (length s) l in
-    step_refused p q s (rw (← e) (λ z. omega (arith, z))) ∙ ap (unchanged (room_of q) s) (sym e)
+no_third p q s l = step_refused p q s no_such_party (no_party p (length s) l)
 
 -- A GET changes no byte either
 pub get_unchanged : (p i room : ℕ) (s : List ℕ) → (step (By p (Get i room)) s).bytes ≡ s
 get_unchanged p i room s =
-    either_step p (Get i room) s (λ o. o.bytes ≡ s) (λ low size. rw (get_keeps i room (half_of p s)) (put_same p s low size)) refl
+    either_step p (Get i room) s (λ o. o.bytes ≡ s) (λ low size. rw (get_keeps i room (half_of p s)) (put_same p s low size)) (λ _ _. refl)
 
 -- ---- no call damages a shelf
 
@@ -124,20 +118,15 @@ pub record Holds (p i : ℕ) (a s : List ℕ) : Type 0 where
   pub size : length s ≡ 65536
   pub held : Held (half_of p s) i a
 
--- the slot that a put names
-slot_told : (p : ℕ) (a s : List ℕ) → Heard p (Put a) s 0 → (step (By p (Put a)) s).answer.slot ≡ free_slot (half_of p s)
-slot_told p a s d = rw (step_taken p (Put a) s d.low d.size, put_is (half_of p s) a d.told)
-
 -- A PUT that is not refused leaves its bytes in the slot that it names
-pub put_holds : (p : ℕ) (a s : List ℕ) → number_of (step (By p (Put a)) s) ≡ 0
-    → Holds p (step (By p (Put a)) s).answer.slot a (step (By p (Put a)) s).bytes
-put_holds p a s ok =
-    let d = unrefused p (Put a) s ok in
+pub put_holds : (p : ℕ) (a s : List ℕ) (i : ℕ) → (step (By p (Put a)) s).answer ≡ Ok (Slot i) → Holds p i a (step (By p (Put a)) s).bytes
+put_holds p a s i ok =
+    let d = unrefused p (Put a) s (Slot i) ok in
     record {
       party = d.low;
       size = step_length (By p (Put a)) s ∙ d.size;
-      held = rw (slot_told p a s d, own_half p (Put a) s d.low d.size)
-          (put_held (half_of p s) a (half_size p s d.low d.size) d.told);
+      held = rw (slot_one _ _ d.is, own_half p (Put a) s d.low d.size)
+          (put_held (half_of p s) a (half_size p s d.low d.size) d.fine);
     }
 
 -- every call but a clear and this party's drop of the slot keeps them there
@@ -163,22 +152,22 @@ get_holds p i a s room o fits =
     ∙ rw (get_held (half_of p s) i a room o.held fits, put_same p s o.party o.size)
 
 -- KEPT: what a put took is got, byte for byte, whatever either party did in between but a clear and this party's drop of its slot
-pub get_after_put : (s : List ℕ) (p : ℕ) (a : List ℕ) (cs : List Call) (room : ℕ) (o : Outcome) → o ≡ step (By p (Put a)) s → number_of o ≡ 0
-    → Every (λ c. spares p o.answer.slot c ≡ true) cs
+pub get_after_put : (s : List ℕ) (p : ℕ) (a : List ℕ) (cs : List Call) (room i : ℕ) (o : Outcome) → o ≡ step (By p (Put a)) s → o.answer ≡ Ok (Slot i)
+    → Every (λ c. spares p i c ≡ true) cs
     → length a ≤ room
-    → step (By p (Get o.answer.slot room)) (after_all o.bytes cs) ≡ gotten a room (after_all o.bytes cs)
-get_after_put s p a cs room o is ok spared fits =
-    let put = put_holds p a s (ap number_of (sym is) ∙ ok) in
-    get_holds p _ a _ room (holds_all p o.answer.slot a cs o.bytes spared (rw is put)) fits
+    → step (By p (Get i room)) (after_all o.bytes cs) ≡ gotten a room (after_all o.bytes cs)
+get_after_put s p a cs room i o is ok spared fits =
+    let put = put_holds p a s i (ap (λ (q : Outcome). q.answer) (sym is) ∙ ok) in
+    get_holds p i a _ room (holds_all p i a cs o.bytes spared (rw is put)) fits
 
 -- ---- what is dropped is gone
 
 -- DROPPED: a drop that is not refused leaves no byte of the record and none of its entry, and all else as it was (the other half too, by `other_half`)
-pub dropped_gone : (p i : ℕ) (s : List ℕ) → number_of (step (By p (Drop i)) s) ≡ 0 → Dropped (half_of p s) (half_of p (step (By p (Drop i)) s).bytes) i
+pub dropped_gone : (p i : ℕ) (s : List ℕ) → (step (By p (Drop i)) s).answer ≡ Ok Done → Dropped (half_of p s) (half_of p (step (By p (Drop i)) s).bytes) i
 dropped_gone p i s ok =
-    let d = unrefused p (Drop i) s ok in
-    let u = slot_used (half_of p s) i d.told in
-    let c = drop_change (half_of p s) i d.told (half_size p s d.low d.size) in
+    let d = unrefused p (Drop i) s Done ok in
+    let u = slot_used (half_of p s) i d.fine in
+    let c = drop_change (half_of p s) i d.fine (half_size p s d.low d.size) in
     rw (own_half p (Drop i) s d.low d.size) (record {
       slot = u.slot;
       used = u.used;
@@ -195,17 +184,17 @@ module _ (p : ℕ) (s a : List ℕ) where
   placeable r = record { size = half_size p s r.party r.size; whole = r.whole; accepted = r.accepted }
 
   -- what refuses the record is answered
-  answers : Ready p s a → {f : Refusal} → f ≡ put_refusal (half_of p s) a → (f.number ≡ 0 → ⊥) → (step (By p (Put a)) s).answer.refusal ≡ f
-  answers r {f} e n = ap (λ (o : Outcome). o.answer.refusal) (half_refused p (Put a) s r.party r.size (rw (← e) n)) ∙ sym e
+  answers : Ready p s a → (r : Refusal) → put_refusal (half_of p s) a ≡ Err r → (step (By p (Put a)) s).answer ≡ Err r
+  answers d r e = ap (λ (o : Outcome). o.answer) (half_refused p (Put a) s r d.party d.size e)
 
   -- 20 EXACTLY: it is told where nothing earlier refuses and all 16 slots are used
-  pub full_told : Full p s a → (step (By p (Put a)) s).answer.refusal ≡ no_free_slot
-  full_told f = answers f.ready (put_full (half_of p s) a (placeable f.ready) (all_used (half_of p s) f.used)) (λ e. omega (arith, e))
+  pub full_told : Full p s a → (step (By p (Put a)) s).answer ≡ Err no_free_slot
+  full_told f = answers f.ready no_free_slot (put_full (half_of p s) a (placeable f.ready) (all_used (half_of p s) f.used))
 
   -- and only there, whatever the party, the shelf and the bytes
   pub told_full : number_of (step (By p (Put a)) s) ≡ 20 → Full p s a
   told_full e =
-      let d = heard p (Put a) s (λ z. omega (arith, z)) (λ z. omega (arith, z)) e in
+      let d = heard p (Put a) s (omega arith) (λ z. omega (arith, z)) (λ z. omega (arith, z)) e in
       let (placed, full) = twenty (half_of p s) a (half_size p s d.low d.size) d.told in
       record {
         ready = record { party = d.low; size = d.size; whole = placed.whole; accepted = placed.accepted };
@@ -213,15 +202,15 @@ module _ (p : ℕ) (s a : List ℕ) where
       }
 
   -- 21 EXACTLY: it is told where nothing earlier refuses, a slot is free and no place has room
-  pub crowded_told : Crowded p s a → (step (By p (Put a)) s).answer.refusal ≡ no_gap
+  pub crowded_told : Crowded p s a → (step (By p (Put a)) s).answer ≡ Err no_gap
   crowded_told c =
       let free = some_free (half_of p s) c.slot c.low c.free in
-      answers c.ready (put_crowded (half_of p s) a (placeable c.ready) free (no_gap_is (half_of p s) (length a) c.none)) (λ e. omega (arith, e))
+      answers c.ready no_gap (put_crowded (half_of p s) a (placeable c.ready) free (no_gap_is (half_of p s) (length a) c.none))
 
   -- and only there
   pub told_crowded : number_of (step (By p (Put a)) s) ≡ 21 → Crowded p s a
   told_crowded e =
-      let d = heard p (Put a) s (λ z. omega (arith, z)) (λ z. omega (arith, z)) e in
+      let d = heard p (Put a) s (omega arith) (λ z. omega (arith, z)) (λ z. omega (arith, z)) e in
       let (placed, slot, crowded) = twenty_one (half_of p s) a (half_size p s d.low d.size) d.told in
       record {
         ready = record { party = d.low; size = d.size; whole = placed.whole; accepted = placed.accepted };
@@ -233,7 +222,7 @@ module _ (p : ℕ) (s a : List ℕ) where
 
 -- ---- the lowest of each
 
-half_placed : (h a : List ℕ) → length h ≡ 32768 → (put_refusal h a).number ≡ 0 → Placed h (on_half (Put a) h).bytes (free_slot h) a
+half_placed : (h a : List ℕ) → length h ≡ 32768 → put_refusal h a ≡ none → Placed h (on_half (Put a) h).bytes (free_slot h) a
 half_placed h a size z =
     let asked = accepted_put h a z in
     let c = put_change h a z size in
@@ -251,11 +240,11 @@ half_placed h a size z =
     }
 
 -- THE LOWEST OF EACH: a put that is not refused takes the lowest free slot, and the lowest place with room
-pub placed_lowest : (p : ℕ) (a s : List ℕ) → number_of (step (By p (Put a)) s) ≡ 0
-    → Placed (half_of p s) (half_of p (step (By p (Put a)) s).bytes) (step (By p (Put a)) s).answer.slot a
-placed_lowest p a s ok =
-    let d = unrefused p (Put a) s ok in
-    rw (slot_told p a s d, own_half p (Put a) s d.low d.size) (half_placed (half_of p s) a (half_size p s d.low d.size) d.told)
+pub placed_lowest : (p : ℕ) (a s : List ℕ) (i : ℕ) → (step (By p (Put a)) s).answer ≡ Ok (Slot i)
+    → Placed (half_of p s) (half_of p (step (By p (Put a)) s).bytes) i a
+placed_lowest p a s i ok =
+    let d = unrefused p (Put a) s (Slot i) ok in
+    rw (slot_one _ _ d.is, own_half p (Put a) s d.low d.size) (half_placed (half_of p s) a (half_size p s d.low d.size) d.fine)
 
 -- ---- nothing is left in the gaps
 

@@ -6,6 +6,8 @@ use Prim.Native.Nat.{ℕ, suc, ◌<◌}
 use lib.Dec.{eqb}
 use lib.ListN.{length, length-replicate}
 use borrow.Author.Tests.{eqb-true, eqb-false, ne_eqb}
+use Rattle.std.specs.Prelude.{Err}
+use Rattle.modes.specs.declared.Refusal.{Refusal}
 use Rattle.modes.specs.Refusals.{unless}
 use Rattle.modes.proofs.Refusals.{unless_not, unless_so, either_way}
 use Rattle.tally.specs.Ranks.{chosen}
@@ -37,12 +39,12 @@ same_clear s t e = rw e
 -- a request changes one half of a whole shelf, or nothing
 pub either_step : (p : ℕ) (q : Request) (s : List ℕ) (P : Outcome → Type 0)
     → (p < 2 → length s ≡ 65536 → P (in_shelf p s (on_half q (half_of p s))))
-    → P (unchanged (room_of q) s (shelf_refusal p (length s)))
+    → ((r : Refusal) → shelf_refusal p (length s) ≡ Err r → P (unchanged (room_of q) s r))
     → P (step (By p q) s)
 unfolding step
 either_step p q s P taken refused =
     either_way (shelf_refusal p (length s)) (unchanged (room_of q) s) _ P
-    (λ z. let (low, whole) = taken_shelf p (length s) z in taken low whole) (λ _. refused)
+    (λ z. let (low, whole) = taken_shelf p (length s) z in taken low whole) refused
 
 -- what party p's request does to its half, and answers: all that it takes of the rest of the shelf is the length
 on_own : ℕ → Request → ℕ → List ℕ → Outcome
@@ -66,7 +68,7 @@ pub step_length : (c : Call) (s : List ℕ) → length (step c s).bytes ≡ leng
 unfolding step
 step_length Clear s = length-replicate (length s) 0
 step_length (By p q) s =
-    either_step p q s (λ o. length o.bytes ≡ length s) (λ low whole. put_length p s low whole _ (half_kept p q s low whole) ∙ sym whole) refl
+    either_step p q s (λ o. length o.bytes ≡ length s) (λ low whole. put_length p s low whole _ (half_kept p q s low whole) ∙ sym whole) (λ _ _. refl)
 
 -- what party p sees of its own request
 own_seen : (p : ℕ) (q : Request) (s : List ℕ) → seen_by p (step (By p q) s) ≡ seen_of (on_own p q (length s) (half_of p s))
@@ -76,7 +78,7 @@ own_seen p q s =
     let taken = taken_shelf p (length s) in
     either_way r (unchanged (room_of q) s) _ (λ o. seen_by p o ≡ seen_of (on_own p q (length s) (half_of p s)))
     (λ z. read_back p q s (taken z).0 (taken z).1 ∙ ap seen_of (sym (unless_not r _ _ z)))
-    (λ n. ap seen_of (sym (unless_so r _ _ n)))
+    (λ e n. ap seen_of (sym (unless_so r _ _ e n)))
 
 -- what a party sees of its own call, or of a clear, depends on the shelf's length and its half alone
 pub own_step : (p : ℕ) (c : Call) (s t : List ℕ) → concerns p c ≡ true → length s ≡ length t → half_of p s ≡ half_of p t
@@ -89,7 +91,7 @@ pub other_step : (p : ℕ) (c : Call) (s : List ℕ) → concerns p c ≡ false 
 other_step p Clear s e = cc
 other_step p (By q r) s e =
     either_step q r s (λ o. half_of p o.bytes ≡ half_of p s)
-    (λ low whole. half_other q s low whole _ (half_kept q r s low whole) p (λ z. eqb-false q p e (sym z))) refl
+    (λ low whole. half_other q s low whole _ (half_kept q r s low whole) p (λ z. eqb-false q p e (sym z))) (λ _ _. refl)
 
 -- THE OTHER HALF is as it was after any request
 pub other_half : (b p : ℕ) (q : Request) (s : List ℕ) → (p ≡ b → ⊥) → half_of b (step (By p q) s).bytes ≡ half_of b s
@@ -104,7 +106,7 @@ own_left : (P : List ℕ → Type 0) (p : ℕ) (q : Request) (s : List ℕ) → 
     → P (half_of p (step (By p q) s).bytes)
 own_left P p q s made as_it_was =
     either_step p q s (λ o. P (half_of p o.bytes))
-    (λ low whole. rw (half_put p s low whole _ (half_kept p q s low whole)) (made (half_size p s low whole))) as_it_was
+    (λ low whole. rw (half_put p s low whole _ (half_kept p q s low whole)) (made (half_size p s low whole))) (λ _ _. as_it_was)
 
 -- and so whoever's call it is
 pub half_left : (P : List ℕ → Type 0) (b p : ℕ) (q : Request) (s : List ℕ)

@@ -1,23 +1,23 @@
 -- What the theorems say of outcomes: 20 and 21, where a record is put, what is got, and what a drop leaves.
-use Rattle.std.specs.Prelude.{◌≡◌, true, false, List, ◌++◌, ℕ, ◌*◌, ◌-◌, ◌<◌, length, get_or, take, drop}
-use Rattle.modes.specs.Answers.{none}
+use Rattle.std.specs.Prelude.{◌≡◌, true, false, List, ◌++◌, ℕ, ◌*◌, ◌-◌, ◌<◌, length, get_or, take, drop, Ok}
+use Rattle.modes.specs.Answers.{none, number_in}
 use Rattle.lent.specs.Bytes.{zeros}
 use Rattle.record.specs.Refusals.{refusal_of}
 use Rattle.slots.specs.Half.{place_of, length_of, is_free, is_whole, is_room}
 use Rattle.slots.specs.Gaps.{Outside, Starts}
-use Rattle.shelf.specs.Requests.{Outcome, record_in}
+use Rattle.shelf.specs.Requests.{Outcome, Length, record_in}
 use Rattle.shelf.specs.Steps.{half_of}
 
--- the number in an answer
+-- the number of what refuses a call, and 0 where nothing does
 abbrev pub number_of : Outcome → ℕ
-number_of o = o.answer.refusal.number
+number_of o = number_in o.answer
 
 -- nothing that comes before 20 and 21 refuses a put: there is such a party, the shelf has its length, the half is not damaged and the record is accepted
 pub record Ready (p : ℕ) (s a : List ℕ) : Type 0 where
   pub party : p < 2
   pub size : length s ≡ 65536
   pub whole : is_whole (half_of p s) ≡ true
-  pub accepted : (refusal_of 1 a).number ≡ 0
+  pub accepted : refusal_of 1 a ≡ none
 
 -- all 16 slots are used
 pub record Full (p : ℕ) (s a : List ℕ) : Type 0 where
@@ -47,7 +47,7 @@ pub record Placed (h h' : List ℕ) (i : ℕ) (a : List ℕ) : Type 0 where
 
 -- what a get of the bytes a gives: their length, a copy with zeros past it, and the shelf as it was
 abbrev pub gotten : List ℕ → ℕ → List ℕ → Outcome
-gotten a room s = record { answer = record { refusal = none; len = length a; slot = 0 }; output = a ++ zeros (room - length a); bytes = s }
+gotten a room s = record { answer = Ok (Length (length a)); output = a ++ zeros (room - length a); bytes = s }
 
 -- slot i was used; zeros stand where its record and its entry stood, every other byte of the half is as it was, and the slot is free
 pub record Dropped (h h' : List ℕ) (i : ℕ) : Type 0 where

@@ -1,9 +1,9 @@
 -- Calls in turn on one shelf, what a party sees of them, and which calls leave a slot alone.
-use Rattle.std.specs.Prelude.{◌≡◌, ℕ, Bool, true, false, cond, ◌&&◌, not, List, [], ◌∷◌, eqb, length}
+use Rattle.std.specs.Prelude.{◌≡◌, ℕ, Bool, true, false, cond, ◌&&◌, not, List, [], ◌∷◌, eqb, length, Result}
 use Rattle.tally.specs.Ranks.{chosen}
 use Rattle.slots.specs.Half.{is_whole}
-use Rattle.shelf.specs.declared.Shelved.{Shelved}
-use Rattle.shelf.specs.Requests.{Put, Get, Drop, Outcome}
+use Rattle.modes.specs.declared.Refusal.{Refusal}
+use Rattle.shelf.specs.Requests.{Put, Get, Drop, Shelved, Outcome}
 use Rattle.shelf.specs.Steps.{Call, Clear, By, half_of, step}
 
 -- the outcome of each call, and the shelf after all of them
@@ -26,7 +26,7 @@ own_calls p = chosen (concerns p)
 
 -- what party p sees of a call: the answer, the output and its half after it
 pub record Seen : Type 0 where
-  pub answer : Shelved
+  pub answer : Result Shelved Refusal
   pub output : List ℕ
   pub half : List ℕ
 

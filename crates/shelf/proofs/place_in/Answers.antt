@@ -7,8 +7,7 @@ use Rattle.shelf.proofs.Answering.{half_refuses, put_leaves}
 use Rattle.shelf.proofs.place_in.Goals as goal
 
 pub returns-in_default : goal.returns-in_default
-returns-in_default c =
-    half_refuses _ _ _ _ _ (put_full _ _ c.requires (omega arith)) (λ z. absurd (omega (arith, z))) c.refused.ensures refl
+returns-in_default c = half_refuses _ _ _ _ _ (put_full _ _ c.requires (omega arith)) refl refl
 
 pub gap_for-requires : goal.gap_for-requires
 gap_for-requires c =
@@ -16,8 +15,7 @@ gap_for-requires c =
     (c.requires.whole, omega (arith, long), omega (arith, long))
 
 pub returns-in_default-gap_for : goal.returns-in_default-gap_for
-returns-in_default-gap_for c =
-    half_refuses _ _ _ _ _ (put_crowded _ _ c.requires (omega arith) (omega arith)) (λ z. absurd (omega (arith, z))) c.refused-in_default-gap_for.ensures refl
+returns-in_default-gap_for c = half_refuses _ _ _ _ _ (put_crowded _ _ c.requires (omega arith) (omega arith)) refl refl
 
 pub hold-requires : goal.hold-requires
 hold-requires c =
