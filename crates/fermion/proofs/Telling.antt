@@ -1,10 +1,10 @@
 -- What is told of an answer by cases is what the C face's definitions say of it.
 use mathlib.Core.Path.{◌≡◌, ap, ◌∙◌}
-use mathlib.Core.List.{List, [], ◌∷◌, ◌++◌}
+use mathlib.Core.List.{List, [], ◌∷◌}
 use Prim.Native.Nat.{ℕ}
 use lib.IntN.{ℤ, pos}
 use lib.Ieee.{Float}
-use lib.ListN.{take, replicate}
+use lib.ListN.{replicate}
 use Rattle.std.specs.Prelude.{Result, Ok, Err, MatchResult}
 use Rattle.modes.specs.declared.Refusal.{Refusal}
 use Rattle.float_elem.specs.Sums.{plus_zero}
@@ -27,8 +27,12 @@ module _ {A : Type 0} (values : A → List Float) where
       → MatchResult x (λ z. value ≡ float_values (Ok (values z))) (λ _. value ≡ plus_zero ∷ plus_zero ∷ []) → answer ≡ answered (λ _. own 0 0 0) x → FillsFloat t value answer
   fills_float x t e value answer h g = record { floats = floats_of x value h ∙ ap float_values e; numbers = g ∙ numbers_of x ∙ ap float_answer e }
 
--- the entries of a matrix
-pub entries_of : (p : Result (List Row) Refusal) (matrix : List ℤ) → MatchResult p (λ rows. matrix ≡ in_rows rows) (λ _. matrix ≡ replicate 64 (pos 0))
+-- the entries and the numbers of a matrix
+entries_of : (p : Result (List Row) Refusal) (matrix : List ℤ) → MatchResult p (λ rows. matrix ≡ in_rows rows) (λ _. matrix ≡ replicate 64 (pos 0))
     → matrix ≡ entries_in p
 entries_of (Ok rows) matrix h = h
 entries_of (Err r) matrix h = h
+
+pub fills_matrix : (p q : Result (List Row) Refusal) → p ≡ q → (matrix : List ℤ) (answer : List ℕ)
+    → MatchResult p (λ rows. matrix ≡ in_rows rows) (λ _. matrix ≡ replicate 64 (pos 0)) → answer ≡ answered (λ _. own 0 0 0) p → FillsMatrix q matrix answer
+fills_matrix p q e matrix answer h g = record { entries = entries_of p matrix h ∙ ap entries_in e; numbers = g ∙ ap (answered (λ _. own 0 0 0)) e }

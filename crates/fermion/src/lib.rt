@@ -319,6 +319,7 @@ fn complex(z: Complex64) -> [f64; 2]
     [z.re, z.im]
 }
 
+#[tactic(auto, using(crate::proofs::Telling::fills_float))]
 #[unsafe(no_mangle)]
 pub extern "C" fn fermion_mat_elem_real(
     m: u64,
@@ -337,6 +338,7 @@ pub extern "C" fn fermion_mat_elem_real(
     *answer = unvalued(element);
 }
 
+#[tactic(auto, using(crate::proofs::Telling::fills_float))]
 #[unsafe(no_mangle)]
 pub extern "C" fn fermion_mat_elem_complex(
     m: u64,
@@ -393,6 +395,7 @@ fn in_rows(rows: [Row; 8]) -> [i64; 64]
     m
 }
 
+#[tactic(auto, using(crate::proofs::Telling::fills_matrix))]
 #[unsafe(no_mangle)]
 pub extern "C" fn fermion_mat_ortho_projected(
     a: &[u8],

@@ -1,9 +1,0 @@
--- `fermion::fermion_mat_elem_complex` meets its contract.
-use lib.Ieee.{of_bits}
-use Rattle.float_elem.specs.Answers.{complex_values}
-use Rattle.fermion.proofs.Telling.{fills_float}
-use Rattle.fermion.proofs.fermion_mat_elem_complex.Goals as goal
-
-pub returns : goal.returns
-unfolding of_bits
-returns c = fills_float complex_values _ _ c.mat_elem_complex-element.ensures _ _ c.map_or.ensures c.unvalued.ensures
