@@ -1,6 +1,6 @@
 -- Numbers read byte by byte: what a byte adds, and that a ceiling on the way changes nothing below it.
 use mathlib.Core.Path.{◌≡◌, refl, sym, ap, ◌∙◌}
-use mathlib.Core.Bool.{Bool, true, false, cond, not, ◌&&◌}
+use mathlib.Core.Bool.{Bool, true, false, cond, not}
 use mathlib.Core.List.{List, [], ◌∷◌}
 use Prim.Native.Nat.{ℕ, suc, ◌+◌, ◌*◌, ◌-◌, ◌^◌, ◌≤◌, ◌<◌}
 use native.Mathlib.Numerals.{add-one}
@@ -10,10 +10,9 @@ use lib.ListN.{length, get_or, drop, drop_of_length-le}
 use lib.Seq.{drop-cons}
 use borrow.Author.Tests.{ne_eqb}
 use Rattle.decimals.specs.Decimal.{read_on}
-use Rattle.decimals.specs.Numbers.{is_digit, all_digits, starts_well, is_number}
-use Rattle.decimals.specs.Ceiling.{up_to, number_in}
+use Rattle.decimals.specs.Numbers.{starts_well}
+use Rattle.decimals.specs.Ceiling.{up_to}
 use Rattle.std.specs.Prelude.{Some, None}
-use Rattle.std.proofs.lemmas.Option.{cond_some}
 
 pub starts_short : (l : List ℕ) → length l < 2 → eqb (length l) 1 ≡ starts_well l
 unfolding starts_well
@@ -41,46 +40,23 @@ pub cond_none : {A : Type 0} (b : Bool) (x : A) → None ≡ cond b (Some x) Non
 cond_none true x e = absurd cc
 cond_none false x e = refl
 
--- of the number in l, which starts well, the bytes from i on are to come after v
+-- of the number that l makes, the bytes from i on are to come after v
 pub record Reading (l : List ℕ) (v i : ℕ) : Type 0 where
   pub inside : i ≤ length l
   pub small : v ≤ 2 ^ 60 + 1
-  pub good : is_number l ≡ all_digits (drop i l)
   pub value : up_to (read_on 0 l) ≡ up_to (read_on v (drop i l))
 
 module _ (l : List ℕ) (v i : ℕ) (g : Reading l v i) where
-  module _ (h : i < length l) where
-    abbrev b : ℕ
-    b = get_or l i 0
+  -- a byte more
+  pub reading_goes : i < length l → (r : ℕ) → r ≡ up_to (10 * v + (get_or l i 0 - 48)) → Reading l r (i + 1)
+  unfolding read_on
+  reading_goes h r e = record {
+    inside = omega arith;
+    small = omega arith;
+    value = g.value ∙ ap (λ (k : List ℕ). up_to (read_on v k)) (drop_next l i h)
+        ∙ read_capped (drop (i + 1) l) (10 * v + (get_or l i 0 - 48)) r (omega arith);
+  }
 
-    next_good : is_number l ≡ is_digit b && all_digits (drop (i + 1) l)
-    unfolding all_digits
-    next_good = g.good ∙ ap all_digits (drop_next l i h)
-
-    -- a byte more
-    pub reading_goes : (r : ℕ) → Some r ≡ cond (is_digit b) (Some (up_to (10 * v + (b - 48)))) None → r ≤ 2 ^ 60 + 1 → Reading l r (i + 1)
-    unfolding read_on
-    reading_goes r e small =
-        let read = cond_some (is_digit b) _ _ (sym e) in
-        record {
-          inside = omega arith;
-          small = small;
-          good = next_good ∙ ap (λ (x : Bool). x && all_digits (drop (i + 1) l)) read.0;
-          value = g.value ∙ ap (λ (k : List ℕ). up_to (read_on v k)) (drop_next l i h)
-              ∙ read_capped (drop (i + 1) l) (10 * v + (b - 48)) r (omega (arith, read.1));
-        }
-
-    -- a byte that is no digit
-    pub reading_breaks : None ≡ cond (is_digit b) (Some (up_to (10 * v + (b - 48)))) None → None ≡ number_in l
-    reading_breaks e = rw (next_good, cond_none (is_digit b) _ e)
-
-  pub reading_ends : length l ≤ i → Some v ≡ number_in l
-  unfolding all_digits read_on
-  reading_ends h =
-      let none : drop i l ≡ [] = drop_of_length-le l h in
-      let good : is_number l ≡ true = g.good ∙ ap all_digits none in
-      let value : up_to (read_on 0 l) ≡ v = g.value ∙ ap (λ (k : List ℕ). up_to (read_on v k)) none ∙ capped in
-      rw (good, value)
-    where
-      capped : up_to v ≡ v
-      capped = omega (arith, g.small)
+  pub reading_ends : length l ≤ i → v ≡ up_to (read_on 0 l)
+  unfolding read_on
+  reading_ends h = sym (g.value ∙ ap (λ (k : List ℕ). up_to (read_on v k)) (drop_of_length-le l h) ∙ omega (arith, g.small))

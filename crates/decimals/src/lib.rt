@@ -1,9 +1,9 @@
 // Numbers in decimal, as ASCII, in lent bytes.
 #![tactic(auto)]
 
-ghost use Rattle.std.specs.Prelude.{◌≡◌, cond, [], ◌∷◌, ◌+◌, ◌-◌, ◌*◌, ◌≤◌, ◌<◌, ◌^◌, Some, None, IfSome, length};
-ghost use Rattle.decimals.specs.Decimal.{decimal, field};
-ghost use Rattle.decimals.specs.Numbers.{is_digit, starts_well};
+ghost use Rattle.std.specs.Prelude.{◌≡◌, [], ◌∷◌, ◌+◌, ◌≤◌, ◌<◌, ◌^◌, length};
+ghost use Rattle.decimals.specs.Decimal.{decimal, field, read_on};
+ghost use Rattle.decimals.specs.Numbers.{starts_well, is_number};
 ghost use Rattle.decimals.specs.Ceiling.{up_to, number_in};
 ghost use Rattle.decimals.specs.Stores.{Stored};
 
@@ -48,17 +48,6 @@ pub fn up_to(n: u64) -> u64
     n.min(CEILING + 1)
 }
 
-// A number with one byte more, of which what was read is at most one above the ceiling.
-fn read_byte(value: u64, b: u8) -> Option<u64>
-    requires { value ≤ 2 ^ 60 + 1 }
-    ensures { (result ≡ cond (is_digit b) (Some (up_to (10 * value + (b - 48)))) None) × IfSome result (λ v. v ≤ 2 ^ 60 + 1) }
-{
-    if !b.is_ascii_digit() {
-        return None;
-    }
-    Some(up_to(10 * value + (b - b'0') as u64))
-}
-
 // Is there a byte, and no zero in front of others?
 fn starts_well(s: &[u8]) -> bool
     ensures { result ≡ starts_well s.now }
@@ -69,16 +58,30 @@ fn starts_well(s: &[u8]) -> bool
     s[0] != b'0'
 }
 
+// Are the bytes a number?
+pub fn is_number(s: &[u8]) -> bool
+    ensures { result ≡ is_number s.now }
+{
+    starts_well(s) && s.iter().all(|b| b.is_ascii_digit())
+}
+
+// The number that any bytes make, as far as one above the ceiling.
+pub fn value_of(s: &[u8]) -> u64
+    ensures { result ≡ up_to (read_on 0 s.now) }
+{
+    let mut value = 0;
+    for b in s {
+        value = up_to(10 * value + b.saturating_sub(b'0') as u64);
+    }
+    value
+}
+
 // Any bytes as a number of any length, as far as one above the ceiling.
 pub fn read_number(s: &[u8]) -> Option<u64>
     ensures { result ≡ number_in s.now }
 {
-    if !starts_well(s) {
+    if !is_number(s) {
         return None;
     }
-    let mut value = 0;
-    for b in s {
-        value = read_byte(value, *b)?;
-    }
-    Some(value)
+    Some(value_of(s))
 }

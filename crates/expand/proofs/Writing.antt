@@ -1,15 +1,12 @@
 -- The rows of a line from a byte on, written field by field.
-use Rattle.std.specs.Prelude.{Some, None}
-use Rattle.std.proofs.lemmas.Option.{cond_some}
-use Rattle.decimals.proofs.Numbers.{cond_none}
 use mathlib.Core.Path.{◌≡◌, refl, sym, ap, ap₂, ◌∙◌}
-use mathlib.Core.Bool.{Bool, true, false, cond, not, not-not, ◌&&◌}
+use mathlib.Core.Bool.{Bool, true, false, not, not-not}
 use mathlib.Core.List.{List, [], ◌∷◌, ◌++◌, map, append-nil}
 use Prim.Native.Nat.{ℕ, ◌+◌, ◌-◌, ◌*◌, ◌^◌, ◌≤◌, ◌<◌}
 use native.Mathlib.Nat.{add-zero, pow-suc, le_of_eq}
 use native.Mathlib.Omega.{arith}
 use lib.IntN.{nat_abs}
-use lib.ListN.{length, drop, length-append, length-map}
+use lib.ListN.{length, take, drop, length-append, length-map}
 use Rattle.modes.specs.Words.{bit}
 use Rattle.modes.specs.declared.Term.{Term}
 use Rattle.lent.specs.Bytes.{put}
@@ -20,12 +17,12 @@ use Rattle.products.specs.Product.{not_empty, branching, row_times}
 use Rattle.products.specs.Walk.{One, keeping}
 use Rattle.products.specs.declared.ProductHelper.{ProductHelper}
 use Rattle.record.proofs.Numbers.{put_none}
-use Rattle.lines.specs.Grammar.{Ladder, space, is_ladder, ladder_of, all_ladders}
+use Rattle.lines.specs.Grammar.{Ladder, space, ladder_of}
 use Rattle.lines.specs.Refusals.{all_below}
 use Rattle.lines.specs.Reading.{front, rest}
 use Rattle.lines.proofs.Pieces.{next_field, rest_none}
 use Rattle.expand.specs.Rows.{creation, annihilation, rows_after}
-use Rattle.expand.specs.Writing.{helper_of, helper_in, field_in, ladders_from, rows_from, Writable, Wrote}
+use Rattle.expand.specs.Writing.{helper_of, ladder_in, ladders_from, Writable, Wrote}
 use Rattle.expand.proofs.Ladders.{first_below, later_below}
 use Rattle.expand.proofs.Sizes.{rows_number}
 use Rattle.expand.proofs.Steps.{low_row, rows_gone, one_mode, rows_single, rows_twofold}
@@ -41,20 +38,6 @@ wrote_both l m k used next end ts us h a b = (
       ∙ ap (put l used) (sym (rows_append ts us)),
 )
 
--- ---- rows that are there under a condition
-
-cond_same : (b : Bool) (ts : List Term) → cond b ts ts ≡ ts
-cond_same true ts = refl
-cond_same false ts = refl
-
-cond_both : (b : Bool) (ts us : List Term) → cond b (ts ++ us) [] ≡ cond b ts [] ++ cond b us []
-cond_both true ts us = refl
-cond_both false ts us = refl
-
-no_more : (b : Bool) (ts : List Term) → length (cond b ts []) ≤ length ts
-no_more true ts = omega arith
-no_more false ts = omega arith
-
 -- ---- what the code has found
 
 -- a field from `at` + 1 to `end`
@@ -63,9 +46,9 @@ pub record Field (line : List ℕ) (at end : ℕ) : Type 0 where
   pub far : end ≡ (at + 1) + length (front space (drop (at + 1) line))
   pub inside : end ≤ length line
 
--- the words of t and of the ladder in a field, and whether their product is empty
-pub record Words (t : Term) (field : List ℕ) (h : ProductHelper) (empty : Bool) : Type 0 where
-  pub is : Some h ≡ helper_in t field
+-- the words of t and the ladder x, and whether their product is empty
+pub record Words (t : Term) (x : Ladder) (h : ProductHelper) (empty : Bool) : Type 0 where
+  pub is : h ≡ helper_of t x
   pub told : empty ≡ not (not_empty h.l_cre h.l_ann h.r_cre h.r_ann)
 
 -- the lowest row of a product that is not empty, and its branching modes
@@ -82,34 +65,21 @@ module _ {line : List ℕ} {at : ℕ} {t : Term} {work used : ℕ} (w : Writable
     nothing_left : rest space (drop at line) ≡ []
     nothing_left = rest_none space line at (le_of_eq (sym last))
 
-    pub last_room : used + 24 ≤ work
-    last_room = rw nothing_left at w.room
-
-    pub last_wrote : (l : List ℕ) → Wrote l used (rows_from t line at) (used + 24) (put_row l used t)
-    unfolding all_ladders rows_after rows_bytes
+    pub last_wrote : (l : List ℕ) → Wrote l used (rows_after t (ladders_from line at)) (used + 24) (put_row l used t)
+    unfolding rows_after rows_bytes
     last_wrote l = rw nothing_left (refl, ap (put l used) (sym (append-nil (row_bytes t))))
 
   -- ---- one field more
 
   module _ {end : ℕ} (f : Field line at end) where
-    abbrev field : List ℕ
-    field = field_in line (at + 1) end
-
     abbrev x : Ladder
-    x = ladder_of field
+    x = ladder_in line (at + 1) end
 
     abbrev later : List Ladder
     later = ladders_from line end
 
-    abbrev good_later : Bool
-    good_later = all_ladders (rest space (drop end line))
-
-    fields : rest space (drop at line) ≡ field ∷ rest space (drop end line)
+    fields : rest space (drop at line) ≡ take (end - (at + 1)) (drop (at + 1) line) ∷ rest space (drop end line)
     fields = next_field space line at end f.more f.far
-
-    good_is : all_ladders (rest space (drop at line)) ≡ is_ladder field && good_later
-    unfolding all_ladders
-    good_is = ap all_ladders fields
 
     ladders : ladders_from line at ≡ x ∷ later
     ladders = ap (map ladder_of) fields
@@ -131,60 +101,46 @@ module _ {line : List ℕ} {at : ℕ} {t : Term} {work used : ℕ} (w : Writable
     pub low_writable : {u : Term} → nat_abs u.coeff < 2 ^ 63 → Writable line end u work used
     low_writable h = record { here = f.inside; inside = later_below 64 x later all_below_is; room = omega (arith, twice_room); small = h }
 
-    pub high_writable : (low : Term) {u : Term} {next work2 : ℕ} → next ≡ used + 24 * length (rows_from low line end) → work2 ≡ work → nat_abs u.coeff < 2 ^ 63
+    pub high_writable : (low : Term) {u : Term} {next work2 : ℕ} → next ≡ used + 24 * length (rows_after low later) → work2 ≡ work → nat_abs u.coeff < 2 ^ 63
         → Writable line end u work2 next
     high_writable low e same h =
         let few : length (rows_after low later) ≤ 2 ^ length (rest space (drop end line)) =
         rw (length-map (rest space (drop end line)) ladder_of) at (rows_number low later) in
-        let some : length (rows_from low line end) ≤ length (rows_after low later) = no_more good_later (rows_after low later) in
-        record { here = f.inside; inside = later_below 64 x later all_below_is; room = omega (arith, twice_room, few, some, e, same); small = h }
+        record { here = f.inside; inside = later_below 64 x later all_below_is; room = omega (arith, twice_room, few, e, same); small = h }
 
-    -- no ladder
-    pub broken_wrote : None ≡ helper_in t field → (l : List ℕ) → Wrote l used (rows_from t line at) used l
-    unfolding rows_bytes
-    broken_wrote e l = rw (good_is, cond_none (is_ladder field) _ e) (sym (add-zero used), sym (put_none l used))
-
-    module _ {h : ProductHelper} {empty : Bool} (q : Words t field h empty) where
-      read : (is_ladder field ≡ true) × (helper_of t x ≡ h)
-      read = cond_some (is_ladder field) _ _ (sym q.is)
-
-      goodness : all_ladders (rest space (drop at line)) ≡ good_later
-      goodness = good_is ∙ ap (λ (b : Bool). b && good_later) read.0
-
+    module _ {h : ProductHelper} {empty : Bool} (q : Words t x h empty) where
       empty_told : not_empty t.cre t.ann (creation x) (annihilation x) ≡ not empty
       empty_told =
-          ap (λ (k : ProductHelper). not_empty k.l_cre k.l_ann k.r_cre k.r_ann) read.1
+          ap (λ (k : ProductHelper). not_empty k.l_cre k.l_ann k.r_cre k.r_ann) (sym q.is)
           ∙ sym (not-not (not_empty h.l_cre h.l_ann h.r_cre h.r_ann)) ∙ ap not (sym q.told)
 
       -- no row
-      pub gone_wrote : empty ≡ true → (l : List ℕ) → Wrote l used (rows_from t line at) used l
+      pub gone_wrote : empty ≡ true → (l : List ℕ) → Wrote l used (rows_after t (ladders_from line at)) used l
       unfolding rows_bytes
-      gone_wrote e l =
-          rw (goodness, ladders, rows_gone t x (empty_told ∙ ap not e) later, cond_same good_later []) (sym (add-zero used), sym (put_none l used))
+      gone_wrote e l = rw (ladders, rows_gone t x (empty_told ∙ ap not e) later) (sym (add-zero used), sym (put_none l used))
 
       module _ {low : Term} {left : ℕ} (r : Lowest t h empty low left) where
         full : not_empty t.cre t.ann (creation x) (annihilation x) ≡ true
         full = empty_told ∙ ap not r.some
 
         low_is : low ≡ low_row t x
-        low_is = r.lowest ∙ ap (λ (k : ProductHelper). row_times k.l_cre k.l_ann k.r_cre k.r_ann t.coeff 0) (sym read.1)
+        low_is = r.lowest ∙ ap (λ (k : ProductHelper). row_times k.l_cre k.l_ann k.r_cre k.r_ann t.coeff 0) q.is
 
         branches : (p : ℕ) → bit left p ≡ branching t.cre t.ann (creation x) (annihilation x) p
-        branches p = r.modes p ∙ ap (λ (k : ProductHelper). branching k.l_cre k.l_ann k.r_cre k.r_ann p) (sym read.1)
+        branches p = r.modes p ∙ ap (λ (k : ProductHelper). branching k.l_cre k.l_ann k.r_cre k.r_ann p) q.is
 
         pub left_one : 0 < left → One left
         left_one = one_mode t x left r.small branches
 
         -- the rows of the lowest
-        pub single_wrote : left ≡ 0 → (l m : List ℕ) (next : ℕ) → Wrote l used (rows_from low line end) next m → Wrote l used (rows_from t line at) next m
-        single_wrote none l m next v = rw (goodness, ladders, rows_single t x left r.small branches full none later, ← low_is) v
+        pub single_wrote : left ≡ 0 → (l m : List ℕ) (next : ℕ) → Wrote l used (rows_after low later) next m → Wrote l used (rows_after t (ladders_from line at)) next m
+        single_wrote none l m next v = rw (ladders, rows_single t x left r.small branches full none later, ← low_is) v
 
         -- and those of the one that keeps the ladder's mode
         pub twofold_wrote : 0 < left → (l m k : List ℕ) (next last : ℕ) (high : Term) → high ≡ keeping left low → used ≤ length l
-            → Wrote l used (rows_from low line end) next m → Wrote m next (rows_from high line end) last k → Wrote l used (rows_from t line at) last k
+            → Wrote l used (rows_after low later) next m → Wrote m next (rows_after high later) last k → Wrote l used (rows_after t (ladders_from line at)) last k
         twofold_wrote some l m k next last high kept fits v v2 =
             let both : rows_after t (x ∷ later) ≡ rows_after low later ++ rows_after high later =
             rows_twofold t x left r.small branches full some later
             ∙ sym (ap₂ (λ (u v : Term). rows_after u later ++ rows_after v later) low_is (kept ∙ ap (keeping left) low_is)) in
-            rw (goodness, ladders, both, cond_both good_later (rows_after low later) (rows_after high later))
-            (wrote_both l m k used next last (rows_from low line end) (rows_from high line end) fits v v2)
+            rw (ladders, both) (wrote_both l m k used next last (rows_after low later) (rows_after high later) fits v v2)

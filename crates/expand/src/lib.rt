@@ -2,41 +2,41 @@
 #![tactic(auto)]
 
 ghost use Rattle.std.specs.Prelude.{◌≡◌, ◌^◌, ◌≤◌, ◌<◌, nat_abs, length, take};
-ghost use Rattle.lines.specs.Grammar.{coefficient_of};
-ghost use Rattle.expand.specs.Writing.{field_in, ladder_in, helper_in, start_in, rows_from, line_rows, Writable, LineWritable, Wrote};
+ghost use Rattle.lines.specs.Grammar.{coefficient_of, line_of};
+ghost use Rattle.expand.specs.Rows.{rows_after, plain, rows_of};
+ghost use Rattle.expand.specs.Writing.{helper_of, ladder_in, ladders_from, Writable, LineWritable, Wrote};
 
 use modes::Term;
 use products::ProductHelper;
 
 // The words of a term and, on its right, of the ladder in the bytes from `from` to `end`.
-fn helper_at(line: &[u8], from: usize, end: usize, t: Term) -> Option<ProductHelper>
+fn helper_at(line: &[u8], from: usize, end: usize, t: Term) -> ProductHelper
     requires { (from ≤ end) × (end ≤ length line.now) × ((ladder_in line.now from end).mode < 64) }
-    ensures { result ≡ helper_in t (field_in line.now from end) }
+    ensures { result ≡ helper_of t (ladder_in line.now from end) }
 {
-    let ladder = lines::read_ladder(&line[from..end])?;
+    let ladder = lines::ladder_of(&line[from..end]);
     let word = 1u64 << ladder.mode;
     if ladder.annihilates {
-        return Some(ProductHelper {
+        return ProductHelper {
             l_cre: t.cre,
             l_ann: t.ann,
             r_cre: 0,
             r_ann: word,
-        });
+        };
     }
-    Some(ProductHelper {
+    ProductHelper {
         l_cre: t.cre,
         l_ann: t.ann,
         r_cre: word,
         r_ann: 0,
-    })
+    }
 }
 
 // Writes, from byte `used` of the work on, the rows of a term times the ladders of the line from `at` on, where a field ends,
-// and answers where the rows end. A ladder leaves no row, one, or one more that keeps its mode; a field that is no ladder
-// leaves none.
+// and answers where the rows end. A ladder leaves no row, one, or one more that keeps its mode.
 pub fn put_rows(line: &[u8], at: usize, t: Term, work: &mut [u8], used: usize) -> usize
     requires { Writable line.now at t (length work.old) used }
-    ensures { Wrote work.old used (rows_from t line.now at) result work.new }
+    ensures { Wrote work.old used (rows_after t (ladders_from line.now at)) result work.new }
 {
     if at == line.len() {
         lent::put_row(work, used, t);
@@ -44,9 +44,7 @@ pub fn put_rows(line: &[u8], at: usize, t: Term, work: &mut [u8], used: usize) -
     }
     let from = at + 1;
     let end = lines::piece_end(line, from, b' ');
-    let Some(helper) = helper_at(line, from, end, t) else {
-        return used;
-    };
+    let helper = helper_at(line, from, end, t);
     if helper.destroys() {
         return used;
     }
@@ -60,27 +58,25 @@ pub fn put_rows(line: &[u8], at: usize, t: Term, work: &mut [u8], used: usize) -
 }
 
 // {|} times the coefficient in the first `end` bytes of the line.
-fn start_at(line: &[u8], end: usize) -> Option<Term>
+fn start_at(line: &[u8], end: usize) -> Term
     requires { (end ≤ length line.now) × (nat_abs (coefficient_of (take end line.now)) ≤ 2 ^ 60) }
-    ensures { result ≡ start_in (take end line.now) }
+    ensures { result ≡ plain (coefficient_of (take end line.now)) }
 {
-    let c = lines::read_coefficient(&line[..end])?;
+    let c = lines::coefficient_of(&line[..end]);
     let coeff = products::signed_coeff(c.sign, c.magnitude as i64);
-    Some(Term {
+    Term {
         cre: 0,
         ann: 0,
         coeff,
-    })
+    }
 }
 
-// Writes the rows of a whole line from byte `used` of the work on, and answers where they end. Bytes that are no line leave none.
+// Writes the rows of a whole line from byte `used` of the work on, and answers where they end.
 pub fn put_line_rows(line: &[u8], work: &mut [u8], used: usize) -> usize
     requires { LineWritable line.now (length work.old) used }
-    ensures { Wrote work.old used (line_rows line.now) result work.new }
+    ensures { Wrote work.old used (rows_of (line_of line.now)) result work.new }
 {
     let end = lines::piece_end(line, 0, b' ');
-    let Some(start) = start_at(line, end) else {
-        return used;
-    };
+    let start = start_at(line, end);
     put_rows(line, end, start, work, used)
 }

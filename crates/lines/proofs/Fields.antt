@@ -3,7 +3,7 @@ use Rattle.std.specs.Prelude.{Some, None}
 use Rattle.std.proofs.lemmas.Option.{cond_some}
 use Rattle.decimals.proofs.Numbers.{cond_none}
 use mathlib.Core.Path.{◌≡◌, refl, sym, ap, ◌∙◌}
-use mathlib.Core.Bool.{Bool, true, false, ◌&&◌, ◌||◌, and-true, and-false, and_assoc}
+use mathlib.Core.Bool.{Bool, true, false, ◌&&◌, and-true, and_assoc}
 use mathlib.Core.List.{List, [], ◌∷◌, map}
 use Prim.Native.Nat.{ℕ, ◌+◌, ◌-◌, ◌≤◌, ◌<◌}
 use native.Mathlib.Omega.{arith}
@@ -17,41 +17,26 @@ use mathlib.Core.Logic.{⊎_elim}
 use Rattle.products.proofs.Signs.{abs_signed}
 use Rattle.decimals.specs.Decimal.{read_on}
 use Rattle.decimals.specs.Numbers.{starts_well, is_number}
-use Rattle.decimals.specs.Ceiling.{up_to, number_in}
-use Rattle.lines.specs.Grammar.{space, creates, annihilates, pieces, kind_of, mode_of, is_ladder, ladder_of, all_ladders, is_minus, magnitude_of, coefficient_of}
+use Rattle.decimals.specs.Ceiling.{up_to}
+use Rattle.lines.specs.Grammar.{space, pieces, is_ladder, ladder_of, all_ladders, is_minus, magnitude_of, coefficient_of}
 use Rattle.lines.specs.Grammar.{is_line_of, line_from}
 use Rattle.lines.specs.Refusals.{all_below}
-use Rattle.lines.specs.Reading.{ladder_read, coefficient_read, ladders_read, line_read}
+use Rattle.lines.specs.Reading.{ladder_made, ladder_read, coefficient_read, ladders_read, line_read}
 use Rattle.lines.specs.declared.ReadLadder.{ReadLadder}
 use Rattle.lines.specs.declared.ReadLadders.{ReadLadders}
 use Rattle.lines.specs.declared.ReadCoefficient.{ReadCoefficient}
 
 -- ---- a ladder
 
-abbrev pub kind_good : List ℕ → Bool
-kind_good l = eqb (kind_of l) creates || eqb (kind_of l) annihilates
+pub no_bytes : (l : List ℕ) → length l < 1 → false ≡ is_ladder l
+unfolding is_ladder starts_well
+no_bytes [] h = refl
+no_bytes (x ∷ l) h = absurd (omega arith)
 
-module _ (l : List ℕ) where
-  pub no_bytes : length l < 1 → None ≡ ladder_read l
-  unfolding is_ladder starts_well
-  no_bytes h = go l h
-    where
-      go : (k : List ℕ) → length k < 1 → None ≡ ladder_read k
-      go [] e = refl
-      go (x ∷ k) e = absurd (omega arith)
-
-  pub no_kind : kind_good l ≡ false → None ≡ ladder_read l
-  unfolding is_ladder
-  no_kind e = rw (e, and-false (is_number (mode_of l)))
-
-  pub no_mode : None ≡ number_in (mode_of l) → None ≡ ladder_read l
-  unfolding is_ladder
-  no_mode e = rw (cond_none (is_number (mode_of l)) _ e)
-
-  pub ladder_read_is : kind_good l ≡ true → (v : ℕ) → Some v ≡ number_in (mode_of l)
-      → Some (record { annihilates = eqb (kind_of l) annihilates; mode = v }) ≡ ladder_read l
-  unfolding is_ladder ladder_of
-  ladder_read_is k v e = let number = cond_some (is_number (mode_of l)) _ _ (sym e) in rw (number.0, k, number.1)
+pub nothing_made : (l : List ℕ) → length l < 1 → ◌≡◌ {A = ReadLadder} (record { annihilates = false; mode = 0 }) (ladder_made l)
+unfolding ladder_of read_on
+nothing_made [] h = refl
+nothing_made (x ∷ l) h = absurd (omega arith)
 
 -- ---- a coefficient
 
@@ -62,22 +47,9 @@ minus_first [] e = absurd (go e)
     go h = absurd (omega (arith, eqb-true 0 45 h))
 minus_first (x ∷ l) e = omega arith
 
-module _ (l : List ℕ) where
-  pub after_minus : is_minus l ≡ true → take (length l - 1) (drop 1 l) ≡ magnitude_of l
-  unfolding magnitude_of
-  after_minus h = rw h (take_all (length l - 1) (drop 1 l) (omega (arith, length-drop 1 l)))
-
-  pub all_digits_of : is_minus l ≡ false → l ≡ magnitude_of l
-  unfolding magnitude_of
-  all_digits_of h = rw h
-
-  module _ (digits : List ℕ) (e : digits ≡ magnitude_of l) where
-    pub no_magnitude : None ≡ number_in digits → None ≡ coefficient_read l
-    no_magnitude n = rw (← e, cond_none (is_number digits) _ n)
-
-    pub coefficient_read_is : (b : Bool) → is_minus l ≡ b → (v : ℕ) → Some v ≡ number_in digits
-        → Some (record { sign = record { 0 = b }; magnitude = v }) ≡ coefficient_read l
-    coefficient_read_is b s v n = let number = cond_some (is_number digits) _ _ (sym n) in rw (← e, number.0, s, number.1)
+pub after_minus : (l : List ℕ) → is_minus l ≡ true → take (length l - 1) (drop 1 l) ≡ magnitude_of l
+unfolding magnitude_of
+after_minus l h = rw h (take_all (length l - 1) (drop 1 l) (omega (arith, length-drop 1 l)))
 
 -- ---- the ladders of a line
 

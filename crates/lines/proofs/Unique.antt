@@ -5,7 +5,7 @@ use mathlib.Core.List.{List}
 use Prim.Native.Nat.{ℕ, ◌+◌, ◌≤◌}
 use lib.ListN.{length, drop}
 use Rattle.modes.proofs.Unique.{one}
-use Rattle.lines.specs.Reading.{front, ladder_read, coefficient_read, line_read}
+use Rattle.lines.specs.Reading.{front, ladder_made, ladder_read, coefficient_made, coefficient_read, line_read}
 use Rattle.lines.specs.declared.ReadLadder.{ReadLadder}
 use Rattle.lines.specs.declared.ReadCoefficient.{ReadCoefficient}
 use Rattle.lines.specs.declared.ReadLine.{ReadLine}
@@ -15,8 +15,14 @@ module _ (l : List ℕ) where
       → (s ≡ at + length (front mark (drop at l))) × (s ≤ length l) → r ≡ s
   one_end at mark r s p q = one p.0 q.0
 
+  pub one_ladder_made : (r s : ReadLadder) → r ≡ ladder_made l → s ≡ ladder_made l → r ≡ s
+  one_ladder_made r s = one
+
   pub one_ladder : (r s : Option ReadLadder) → r ≡ ladder_read l → s ≡ ladder_read l → r ≡ s
   one_ladder r s = one
+
+  pub one_coefficient_made : (r s : ReadCoefficient) → r ≡ coefficient_made l → s ≡ coefficient_made l → r ≡ s
+  one_coefficient_made r s = one
 
   pub one_coefficient : (r s : Option ReadCoefficient) → r ≡ coefficient_read l → s ≡ coefficient_read l → r ≡ s
   one_coefficient r s = one

@@ -20,14 +20,21 @@ unfoldable pub rest : ℕ → List ℕ → List (List ℕ)
 rest b [] = []
 rest b (x ∷ l) = pieces b l
 
+-- the ladder that any bytes make
+abbrev pub ladder_made : List ℕ → ReadLadder
+ladder_made l = record { annihilates = (ladder_of l).needs; mode = up_to (ladder_of l).mode }
+
 -- a ladder, where the field is one
 abbrev pub ladder_read : List ℕ → Option ReadLadder
-ladder_read l = cond (is_ladder l) (Some (record { annihilates = (ladder_of l).needs; mode = up_to (ladder_of l).mode })) None
+ladder_read l = cond (is_ladder l) (Some (ladder_made l)) None
+
+-- the coefficient that any bytes make
+abbrev pub coefficient_made : List ℕ → ReadCoefficient
+coefficient_made l = record { sign = record { 0 = is_minus l }; magnitude = up_to (read_on 0 (magnitude_of l)) }
 
 -- a coefficient, where the field is one
 abbrev pub coefficient_read : List ℕ → Option ReadCoefficient
-coefficient_read l =
-    cond (is_number (magnitude_of l)) (Some (record { sign = record { 0 = is_minus l }; magnitude = up_to (read_on 0 (magnitude_of l)) })) None
+coefficient_read l = cond (is_number (magnitude_of l)) (Some (coefficient_made l)) None
 
 -- the ladders of a line, where all fields are ladders
 abbrev pub ladders_read : ℕ → List (List ℕ) → Option ReadLadders

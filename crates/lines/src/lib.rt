@@ -2,8 +2,8 @@
 #![tactic(auto)]
 
 ghost use Rattle.std.specs.Prelude.{◌≡◌, ◌&&◌, ◌||◌, ◌+◌, ◌≤◌, ◌<◌, ◌^◌, eqb, ltb, length, drop};
-ghost use Rattle.lines.specs.Grammar.{space, creates, annihilates, is_minus};
-ghost use Rattle.lines.specs.Reading.{front, rest, ladder_read, coefficient_read, ladders_read, line_read};
+ghost use Rattle.lines.specs.Grammar.{space, creates, annihilates, is_ladder, is_minus, magnitude_of};
+ghost use Rattle.lines.specs.Reading.{front, rest, ladder_made, ladder_read, coefficient_made, coefficient_read, ladders_read, line_read};
 
 use modes::Sign;
 
@@ -57,21 +57,42 @@ fn is_kind(b: u8) -> bool
     matches!(b, b'^' | b'_')
 }
 
+// Is the field a ladder?
+#[tactic(auto, using(crate::proofs::Fields::no_bytes), unfolding(crate::specs::Grammar::is_ladder))]
+fn is_ladder(s: &[u8]) -> bool
+    ensures { result ≡ is_ladder s.now }
+{
+    let [digits @ .., kind] = s else {
+        return false;
+    };
+    decimals::is_number(digits) && is_kind(*kind)
+}
+
+// The ladder that any bytes make.
+#[tactic(auto, using(crate::proofs::Fields::nothing_made), unfolding(crate::specs::Grammar::ladder_of))]
+pub fn ladder_of(s: &[u8]) -> ReadLadder
+    ensures { result ≡ ladder_made s.now }
+{
+    let [digits @ .., kind] = s else {
+        return ReadLadder {
+            annihilates: false,
+            mode: 0,
+        };
+    };
+    ReadLadder {
+        annihilates: *kind == b'_',
+        mode: decimals::value_of(digits),
+    }
+}
+
 // Any bytes as a ladder.
 pub fn read_ladder(s: &[u8]) -> Option<ReadLadder>
     ensures { result ≡ ladder_read s.now }
 {
-    let [digits @ .., kind] = s else {
-        return None;
-    };
-    if !is_kind(*kind) {
+    if !is_ladder(s) {
         return None;
     }
-    let mode = decimals::read_number(digits)?;
-    Some(ReadLadder {
-        annihilates: *kind == b'_',
-        mode,
-    })
+    Some(ladder_of(s))
 }
 
 // Does the field start with a minus?
@@ -81,22 +102,32 @@ fn is_minus(s: &[u8]) -> bool
     matches!(s, [b'-', ..])
 }
 
+// The field without its minus.
+#[tactic(auto, using(crate::proofs::Fields::after_minus), unfolding(crate::specs::Grammar::magnitude_of))]
+fn magnitude_of(s: &[u8]) -> &[u8]
+    ensures { result.now ≡ magnitude_of s.now }
+{
+    if is_minus(s) { &s[1..] } else { s }
+}
+
+// The coefficient that any bytes make.
+pub fn coefficient_of(s: &[u8]) -> ReadCoefficient
+    ensures { result ≡ coefficient_made s.now }
+{
+    ReadCoefficient {
+        sign: Sign(is_minus(s)),
+        magnitude: decimals::value_of(magnitude_of(s)),
+    }
+}
+
 // Any bytes as a coefficient.
 pub fn read_coefficient(s: &[u8]) -> Option<ReadCoefficient>
     ensures { result ≡ coefficient_read s.now }
 {
-    if is_minus(s) {
-        let magnitude = decimals::read_number(&s[1..])?;
-        return Some(ReadCoefficient {
-            sign: Sign::MINUS,
-            magnitude,
-        });
+    if !decimals::is_number(magnitude_of(s)) {
+        return None;
     }
-    let magnitude = decimals::read_number(s)?;
-    Some(ReadCoefficient {
-        sign: Sign::PLUS,
-        magnitude,
-    })
+    Some(coefficient_of(s))
 }
 
 // One ladder more.

@@ -14,3 +14,4 @@ pub mod Never
 pub mod FirstRefusals
 pub mod Spaces
 pub mod Unique
+pub mod Reasons

@@ -6,7 +6,9 @@ use native.Mathlib.Omega.{arith}
 use native.Mathlib.Nat.{sub-zero}
 use lib.ListN.{length, take, drop}
 use borrow.Author.Tests.{le-leb, lt-leb}
+use Rattle.modes.specs.Reasons.{number_of}
 use Rattle.modes.specs.declared.Refusal.{Refusal}
+use Rattle.modes.proofs.Reasons.{one_reason}
 use Rattle.lent.specs.Bytes.{put, zeros}
 use Rattle.decimals.specs.Decimal.{field}
 use Rattle.decimals.specs.Stores.{Stored}
@@ -17,14 +19,14 @@ use Rattle.reply.specs.Replies.{Says}
 
 -- the word and the three fields, one after the other
 pub line_stored : (r : Refusal) (l l1 l2 l3 m : List ℕ) (p q end : ℕ) → 8 ≤ length l → 8 ≤ length l1 → l1 ≡ put l 0 refused_word
-    → Stored l1 8 (field r.number 32) l2 p → Stored l2 p (field r.operand 32) l3 q → Stored l3 q (field r.place 10) m end
+    → Stored l1 8 (field (number_of r.reason) 32) l2 p → Stored l2 p (field r.operand 32) l3 q → Stored l3 q (field r.place 10) m end
     → Stored l 0 (refused_line r) m end
 unfolding refused_line
 line_stored r l l1 l2 l3 m p q end h h1 e f g k =
-    let two = stored_inside (field r.number 32) h1 f in
+    let two = stored_inside (field (number_of r.reason) 32) h1 f in
     let three = stored_inside (field r.operand 32) two g in
     stored_join refused_word _ (omega arith) (record { bytes = e; ends = refl })
-    (stored_join (field r.number 32) _ h1 f (stored_join (field r.operand 32) (field r.place 10) two g k))
+    (stored_join (field (number_of r.reason) 32) _ h1 f (stored_join (field r.operand 32) (field r.place 10) two g k))
 
 -- what `tell` leaves: nothing, or the line
 module _ (out : List ℕ) (r : Refusal) (line line' : List ℕ) (n : ℕ) (g : Stored line 0 (refused_line r) line' n) where
@@ -50,7 +52,9 @@ pub line_one : (r s : Refusal) → refused_line r ≡ refused_line s → r ≡ s
 unfolding refused_line
 line_one r s e =
     let number =
-    field_apart r.number s.number 32 (field r.operand 32 ++ field r.place 10) (field s.operand 32 ++ field s.place 10) (omega arith) (ap (drop 8) e) in
+    field_apart (number_of r.reason) (number_of s.reason) 32 (field r.operand 32 ++ field r.place 10) (field s.operand 32 ++ field s.place 10) (omega arith)
+    (ap (drop 8) e) in
     let operand = field_apart r.operand s.operand 32 (field r.place 10) (field s.place 10) (omega arith) number.1 in
     let place = field_apart r.place s.place 10 [] [] (omega arith) (ap (λ (l : List ℕ). l ++ []) operand.1) in
-    λ i. record { number = number.0 i; operand = operand.0 i; place = place.0 i }
+    let reason = one_reason r.reason s.reason number.0 in
+    λ i. record { reason = reason i; operand = operand.0 i; place = place.0 i }

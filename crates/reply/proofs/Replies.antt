@@ -4,11 +4,11 @@ use mathlib.Core.Bool.{Bool, true, false, cond}
 use mathlib.Core.List.{List}
 use Prim.Native.Nat.{ℕ, ◌-◌, ◌≤◌, ◌<◌}
 use native.Mathlib.Omega.{arith}
-use native.Mathlib.Nat.{le_refl, sub-zero}
+use native.Mathlib.Nat.{le_refl}
 use lib.Dec.{leb}
 use lib.ListN.{length, take, drop, length-append, length-drop}
 use lib.Seq.{take_all, take_at, length-take-le}
-use borrow.Author.Tests.{eq-eqb, ne_eqb, le-leb, lt-leb, leb-true}
+use borrow.Author.Tests.{le-leb, lt-leb, leb-true}
 use Rattle.pairs.specs.Products.{all_rows}
 use Rattle.normal.specs.Normal.{normal}
 use Rattle.modes.specs.Refusals.{unless}
@@ -17,7 +17,10 @@ use Rattle.record.specs.Operands.{read_as}
 use Rattle.modes.proofs.Bools.{and_l, and_r}
 use Rattle.modes.specs.declared.Refusal.{Refusal}
 use Rattle.modes.specs.declared.Written.{Written}
-use Rattle.modes.specs.Answers.{refusal}
+use Rattle.std.specs.Prelude.{Result, Ok, Err}
+use Rattle.modes.specs.declared.Reason.TheVariants.{Malformed}
+use Rattle.modes.specs.Answers.{Verdict, refusal}
+use Rattle.record.proofs.Outputs.{written_len}
 use Rattle.lent.specs.Bytes.{zeros}
 use Rattle.lent.specs.Outputs.{Output, Gives, refused_output, filled_output}
 use Rattle.record.specs.Layout.{encode, total_of}
@@ -25,7 +28,7 @@ use Rattle.multiply.specs.Answers.{commutator_of, Leaves}
 use Rattle.reply.specs.Replies.{holds_first, answer_to, text_of, Says, first_of, second_of}
 use Rattle.reply.specs.Lines.{line_in}
 
-pub leaves_as : {o q : Output} {r : Written} {x : List ℕ} {room : ℕ} {w : List ℕ} → o ≡ q → Leaves o r x room w → Leaves q r x room w
+pub leaves_as : {o q : Output} {r : Result Written Refusal} {x : List ℕ} {room : ℕ} {w : List ℕ} → o ≡ q → Leaves o r x room w → Leaves q r x room w
 leaves_as {o} {q} {r} {x} {room} {w} e g = subst (λ (y : Output). Leaves y r x room w) e g
 
 module _ (input : List ℕ) where
@@ -52,7 +55,7 @@ module _ (input : List ℕ) where
     unfolding answer_to
     answer_parts work room end e = rw (h, take_all (length input - end) (drop end input) (rw length-drop (le_refl (length input - end))), e)
 
-  pub answer_short : holds_first input ≡ false → (work room : ℕ) → refused_output room (refusal 1 1 0) ≡ answer_to work room input
+  pub answer_short : holds_first input ≡ false → (work room : ℕ) → refused_output room (refusal Malformed 1 0) ≡ answer_to work room input
   unfolding answer_to
   answer_short h work room = rw h
 
@@ -62,8 +65,8 @@ pub data Shape (room : ℕ) : Output → Type 0 where
   filling : (branches : ℕ) (bs : List ℕ) → Shape room (filled_output room branches bs)
 
 -- an answer whose place a refusal takes
-pub unless_shape : {room : ℕ} {o : Output} (f : Refusal) → Shape room o → Shape room (unless f (refused_output room) o)
-unless_shape {room} {o} f h = either_way f (refused_output room) o (Shape room) (λ z. h) (λ n. refusing f)
+pub unless_shape : {room : ℕ} {o : Output} (f : Verdict) → Shape room o → Shape room (unless f (refused_output room) o)
+unless_shape {room} {o} f h = either_way f (refused_output room) o (Shape room) (λ z. h) (λ g e. refusing g)
 
 -- a test before an answer, and the refusal where it fails
 pub tested_shape : {room : ℕ} (s : Bool) (o : Output) (f : Refusal) → Shape room o → Shape room (cond s o (refused_output room f))
@@ -75,28 +78,26 @@ unfolding answer_to
 answer_shape work room input =
     let a = read_as 1 (first_of input) in
     let b = read_as 2 (second_of input) in
-    tested_shape (holds_first input) (commutator_of work room a b) (refusal 1 1 0)
+    tested_shape (holds_first input) (commutator_of work room a b) (refusal Malformed 1 0)
     (unless_shape _ (filling _ (encode a.modes (normal (all_rows true true a.terms b.terms)))))
 
 -- the text of a record is what stands in the output
-record_says : {room : ℕ} (o : Output) → Shape room o → o.answer.refusal.number ≡ 0 → Says (text_of room o) room o.answer.len o.bytes
+record_says : {room : ℕ} (o : Output) (a : Written) → Shape room o → Ok a ≡ o.answer → Says (text_of room o) room a.len o.bytes
 unfolding text_of
-record_says {room} o (refusing f) z = rw (eq-eqb f.number 0 z) (record { len = refl; bytes = rw (sub-zero room) })
-record_says {room} o (filling branches bs) z = rw (take_at bs (zeros (room - length bs)) (length bs) refl) (record { len = refl; bytes = refl })
+record_says {room} o a (refusing f) e = cc
+record_says {room} o a (filling branches bs) e =
+    rw (take_at bs (zeros (room - length bs)) (length bs) refl) (record { len = written_len a (length bs) branches e; bytes = refl })
 
-module _ {room : ℕ} {o : Output} {a : Written} {after : List ℕ} where
-  pub record_told : Shape room o → Gives o a after → a.refusal.number ≡ 0 → Says (text_of room o) room a.len after
-  record_told s g z =
-      let says = record_says o s (ap (λ (w : Written). w.refusal.number) (sym g.answer) ∙ z) in
-      record { len = ap (λ (w : Written). w.len) g.answer ∙ says.len; bytes = g.bytes ∙ says.bytes }
+module _ {room : ℕ} {o : Output} {after : List ℕ} where
+  pub record_told : {a : Written} → Shape room o → Gives o (Ok a) after → Says (text_of room o) room a.len after
+  record_told {a} s g =
+      let says = record_says o a s g.answer in
+      record { len = says.len; bytes = g.bytes ∙ says.bytes }
 
   -- of a refusal, the line
-  pub line_told : {mid : List ℕ} {n r : ℕ} → n ≡ room → Gives o a mid → (a.refusal.number ≡ 0 → ⊥) → Says (line_in n a.refusal) n r after
-      → Says (text_of room o) room r after
+  pub line_told : {mid : List ℕ} {n r : ℕ} {f : Refusal} → n ≡ room → Gives o (Err f) mid → Says (line_in n f) n r after → Says (text_of room o) room r after
   unfolding text_of
-  line_told {mid} {n} {r} e g h s =
-      let same : a.refusal ≡ o.answer.refusal = ap (λ (w : Written). w.refusal) g.answer in
-      rw (ne_eqb o.answer.refusal.number 0 (λ z. h (ap (λ (f : Refusal). f.number) same ∙ z)), ← same, ← e) s
+  line_told e g s = rw (← g.answer, ← e) s
 
 -- a text at the sizes that a program has
 pub at_sizes : (text : ℕ → ℕ → List ℕ) {work room w n r : ℕ} {after : List ℕ} → Says (text work room) room r after → work ≡ w → room ≡ n

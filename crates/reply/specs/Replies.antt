@@ -1,6 +1,9 @@
 -- What an input that holds two records, one after the other, is answered with: the record of their commutator, or the line of its refusal.
-use Rattle.std.specs.Prelude.{◌≡◌, Bool, cond, ◌&&◌, List, ◌++◌, ℕ, ◌*◌, ◌-◌, eqb, leb, length, take, drop}
+use Rattle.std.specs.Prelude.{◌≡◌, Bool, cond, ◌&&◌, List, ◌++◌, ℕ, ◌*◌, ◌-◌, Result, Ok, Err, leb, length, take, drop}
 use Rattle.record.specs.Operands.{read_as}
+use Rattle.modes.specs.declared.Reason.TheVariants.{Malformed}
+use Rattle.modes.specs.declared.Refusal.{Refusal}
+use Rattle.modes.specs.declared.Written.{Written}
 use Rattle.modes.specs.Answers.{refusal}
 use Rattle.lent.specs.Bytes.{zeros}
 use Rattle.lent.specs.Outputs.{Output, refused_output}
@@ -22,11 +25,15 @@ holds_first input = leb 32 (length input) && leb (total_of input) (length input)
 -- the commutator's answer, for a work of `work` and an output of `room` bytes; 1, operand 1, where the first record isn't there
 unfoldable pub answer_to : ℕ → ℕ → List ℕ → Output
 answer_to work room input =
-    cond (holds_first input) (commutator_of work room (read_as 1 (first_of input)) (read_as 2 (second_of input))) (refused_output room (refusal 1 1 0))
+    cond (holds_first input) (commutator_of work room (read_as 1 (first_of input)) (read_as 2 (second_of input))) (refused_output room (refusal Malformed 1 0))
 
 -- an answer as text: the record that stands in the output, or the line of the refusal
+abbrev pub told_in : ℕ → Result Written Refusal → List ℕ → List ℕ
+told_in room (Ok w) bytes = take w.len bytes
+told_in room (Err r) bytes = line_in room r
+
 unfoldable pub text_of : ℕ → Output → List ℕ
-text_of room o = cond (eqb o.answer.refusal.number 0) (take o.answer.len o.bytes) (line_in room o.answer.refusal)
+text_of room o = told_in room o.answer o.bytes
 
 -- the bytes for standard output
 abbrev pub reply_to : ℕ → ℕ → List ℕ → List ℕ

@@ -16,5 +16,5 @@ pub record Commutator (a b text : List ℕ) : Type 0 where
   pub elements : (bra ket : ℕ) → element bra ket (terms_of text) ≡ in_succession bra ket (terms_of a) (terms_of b) +ℤ neg_ℤ (in_succession bra ket (terms_of b) (terms_of a))
 
 pub data Reported (input text : List ℕ) : Type 0 where
-  line : (f : Refusal) → (f.number ≡ 0 → ⊥) → text ≡ refused_line f → Reported input text
+  line : (f : Refusal) → text ≡ refused_line f → Reported input text
   result : Commutator (first_of input) (second_of input) text → Reported input text

@@ -3,14 +3,13 @@
 #![tactic(auto)]
 
 ghost use Rattle.std.specs.Prelude.{◌≡◌, ◌≤◌, length};
-ghost use Rattle.modes.specs.Answers.{refusal};
 ghost use Rattle.lent.specs.Outputs.{refused_output};
 ghost use Rattle.decimals.specs.Stores.{Stored};
 ghost use Rattle.multiply.specs.Answers.{Leaves};
 ghost use Rattle.reply.specs.Lines.{refused_line, line_in};
 ghost use Rattle.reply.specs.Replies.{holds_first, answer_to, reply_to, work_size, room_size, Says, Replies};
 
-use modes::{Refusal, Written};
+use modes::{Reason, Refusal, Written};
 
 // The work of a reply: a row of 24 bytes for each of 2,730 branches.
 const WORK: usize = 24 * 2730;
@@ -25,14 +24,14 @@ pub const LONGEST_INPUT: usize = 2 * ROOM + 1;
 const LONGEST_LINE: usize = 71;
 
 // The line of a refusal to the front, and its length.
-fn put_line(s: &mut [u8], number: u64, operand: u64, place: u64) -> usize
+fn put_line(s: &mut [u8], refusal: Refusal) -> usize
     requires { 71 ≤ length s.old }
-    ensures { Stored s.old 0 (refused_line (refusal number operand place)) s.new result }
+    ensures { Stored s.old 0 (refused_line refusal) s.new result }
 {
     lent::copy(s, 0, b"refused ");
-    let first = decimals::put_field(s, 8, number, b' ');
-    let second = decimals::put_field(s, first, operand, b' ');
-    decimals::put_field(s, second, place, b'\n')
+    let first = decimals::put_field(s, 8, refusal.reason.number(), b' ');
+    let second = decimals::put_field(s, first, refusal.operand, b' ');
+    decimals::put_field(s, second, refusal.place, b'\n')
 }
 
 // The line of a refusal, and zeros past it; all zeros where the line is longer than the output.
@@ -40,7 +39,7 @@ pub fn tell(out: &mut [u8], refusal: Refusal) -> usize
     ensures { Says (line_in (length out.old) refusal) (length out.old) result out.new }
 {
     let mut line = [0u8; LONGEST_LINE];
-    let len = put_line(&mut line, refusal.number, refusal.operand, refusal.place);
+    let len = put_line(&mut line, refusal);
     if out.len() < len {
         lent::wipe(out);
         return 0;
@@ -61,7 +60,7 @@ fn holds_first(input: &[u8]) -> bool
 }
 
 // A refusal before any call that is lent the work: both are wiped here.
-pub fn refuse(work: &mut [u8], out: &mut [u8], refusal: Refusal) -> Written
+pub fn refuse(work: &mut [u8], out: &mut [u8], refusal: Refusal) -> Result<Written, Refusal>
     ensures { Leaves (refused_output (length out.old) refusal) result out.new (length work.old) work.new }
 {
     lent::wipe(work);
@@ -69,7 +68,7 @@ pub fn refuse(work: &mut [u8], out: &mut [u8], refusal: Refusal) -> Written
 }
 
 // The commutator of the two records, or its refusal.
-fn answer(input: &[u8], work: &mut [u8], out: &mut [u8]) -> Written
+fn answer(input: &[u8], work: &mut [u8], out: &mut [u8]) -> Result<Written, Refusal>
     ensures { Leaves (answer_to (length work.old) (length out.old) input.now) result out.new (length work.old) work.new }
 {
     if holds_first(input) {
@@ -77,7 +76,7 @@ fn answer(input: &[u8], work: &mut [u8], out: &mut [u8]) -> Written
         return multiply::commutator(&input[..end], &input[end..], work, out);
     }
     let one = Refusal {
-        number: 1,
+        reason: Reason::Malformed,
         operand: 1,
         place: 0,
     };
@@ -89,12 +88,10 @@ fn answer(input: &[u8], work: &mut [u8], out: &mut [u8]) -> Written
 pub fn commutator(input: &[u8], work: &mut [u8], out: &mut [u8]) -> usize
     ensures { Replies (reply_to (length work.old) (length out.old) input.now) (length out.old) result out.new (length work.old) work.new }
 {
-    let a = answer(input, work, out);
-    let refusal = a.refusal;
-    if refusal.number == 0 {
-        return a.len;
+    match answer(input, work, out) {
+        Ok(written) => written.len,
+        Err(refusal) => tell(out, refusal),
     }
-    tell(out, refusal)
 }
 
 // The same with a work of its own, and an output that holds every record and every line: all that the program says.

@@ -21,7 +21,7 @@ use Rattle.lines.specs.Reading.{front}
 use Rattle.lines.proofs.Fine.{Fine, none_fine}
 use Rattle.lines.proofs.Texts.{pieces_from, lines_from, line_at, last_refused, next_line, next_refusal, no_line}
 use Rattle.expand.specs.Rows.{rows_of}
-use Rattle.expand.specs.Writing.{LineWritable, line_rows, Wrote}
+use Rattle.expand.specs.Writing.{LineWritable}
 use Rattle.expand.proofs.Sizes.{rows_number, rows_fit}
 use Rattle.scan.specs.Sums.{spread, burden}
 use Rattle.scan.proofs.Scanning.{rows_some}
@@ -101,15 +101,9 @@ module _ (text : List ℕ) (room : ℕ) (l : List ℕ) (at used : ℕ) (g : Goin
     pub writable : LineWritable (line_at text at end e) (length l) used
     writable = record { inside = this.below; light = light_line; room = room_left }
 
-    -- the line is one, so that its rows are written
-    line_is : line_rows (line_at text at end e) ≡ rows_of x
-    line_is = rw this.good
-
-    pub going_on : (m : List ℕ) (r : ℕ) → Wrote l used (line_rows (line_at text at end e)) r m → Going text room m (end + 1) r
+    pub going_on : (m : List ℕ) (r : ℕ) → r ≡ used + 24 * length (rows_of x) → m ≡ put l used (rows_bytes (rows_of x)) → Going text room m (end + 1) r
     unfolding sum_by
-    going_on m r wrote =
-        let er : r ≡ used + 24 * length (rows_of x) = wrote.0 ∙ ap (λ (ts : List Term). used + 24 * length ts) line_is in
-        let em : m ≡ put l used (rows_bytes (rows_of x)) = wrote.1 ∙ ap (λ (ts : List Term). put l used (rows_bytes ts)) line_is in
+    going_on m r er em =
         let few : length (rows_of x) ≤ spread x = rows_number (record { cre = 0; ann = 0; coeff = x.coeff }) x.ladders in
         let fit = rows_fit (record { cre = 0; ann = 0; coeff = x.coeff }) x.ladders (lit< tt) (lit< tt) (omega (arith, light_line)) this.below in
         let bytes = length_rows (rows_of x) in

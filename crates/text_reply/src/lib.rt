@@ -31,7 +31,7 @@ fn modes_in(word: &[u8]) -> u64
 }
 
 // The record of a text on as many modes as the word names, or its refusal.
-fn answer(word: &[u8], text: &[u8], work: &mut [u8], out: &mut [u8]) -> Written
+fn answer(word: &[u8], text: &[u8], work: &mut [u8], out: &mut [u8]) -> Result<Written, Refusal>
     ensures { Leaves (import_answer (length work.old) (length out.old) word.now text.now) result out.new (length work.old) work.new }
 {
     if LONGEST_TEXT < text.len() {
@@ -45,24 +45,20 @@ fn answer(word: &[u8], text: &[u8], work: &mut [u8], out: &mut [u8]) -> Written
 pub fn import(word: &[u8], text: &[u8], work: &mut [u8], out: &mut [u8]) -> usize
     ensures { Replies (import_reply (length work.old) (length out.old) word.now text.now) (length out.old) result out.new (length work.old) work.new }
 {
-    let a = answer(word, text, work, out);
-    let refusal = a.refusal;
-    if refusal.number == 0 {
-        return a.len;
+    match answer(word, text, work, out) {
+        Ok(written) => written.len,
+        Err(refusal) => reply::tell(out, refusal),
     }
-    reply::tell(out, refusal)
 }
 
 // The text of a record, or the line of its refusal, at the front of the output; and its length.
 pub fn export(a: &[u8], out: &mut [u8]) -> usize
     ensures { Says (export_reply (length out.old) a.now) (length out.old) result out.new }
 {
-    let e = text::export(a, out);
-    let refusal = e.refusal;
-    if refusal.number == 0 {
-        return e.len;
+    match text::export(a, out) {
+        Ok(written) => written.len,
+        Err(refusal) => reply::tell(out, refusal),
     }
-    reply::tell(out, refusal)
 }
 
 // The import with a work of its own, and an output that holds every record and every line: all that `import_text` says.

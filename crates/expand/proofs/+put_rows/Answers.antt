@@ -19,7 +19,7 @@ use Rattle.lines.specs.Grammar.{space}
 use Rattle.lines.specs.Reading.{front}
 use Rattle.expand.specs.Writing.{Writable}
 use Rattle.expand.proofs.Writing.{Field, Lowest, last_wrote, ladder_below, nearer, low_writable, high_writable}
-use Rattle.expand.proofs.Writing.{broken_wrote, gone_wrote, left_one, single_wrote, twofold_wrote}
+use Rattle.expand.proofs.Writing.{gone_wrote, left_one, single_wrote, twofold_wrote}
 use Rattle.expand.proofs.+put_rows.Goals as goal
 
 -- ---- what the code has found
@@ -40,18 +40,14 @@ pub returns-then-at-line : goal.returns-then-at-line
 returns-then-at-line t c =
     let wrote = last_wrote c.requires c.if-at-line.true c.args.work.now in (wrote.0, c.put_row.ensures ∙ wrote.1)
 
-pub helper_at-requires : goal.helper_at-requires
-helper_at-requires t c =
+pub helper_at-helper-requires : goal.helper_at-helper-requires
+helper_at-helper-requires t c =
     ladder_below c.requires (field c.requires c.if-at-line.false c.piece_end-end.ensures)
-
-pub returns-in_default : goal.returns-in_default
-returns-in_default t c =
-    broken_wrote c.requires (field c.requires c.if-at-line.false c.piece_end-end.ensures) c.in_default.ensures c.args.work.now
 
 pub returns-then-destroys : goal.returns-then-destroys
 returns-then-destroys t c =
     gone_wrote c.requires (field c.requires c.if-at-line.false c.piece_end-end.ensures)
-    (record { is = c.in-Some.ensures; told = c.destroys.ensures })
+    (record { is = c.helper_at-helper.ensures; told = c.destroys.ensures })
     c.if-destroys.true c.args.work.now
 
 pub put_rows-next-requires : goal.put_rows-next-requires
@@ -62,7 +58,7 @@ put_rows-next-requires t c =
 pub returns-then-left-eq0 : goal.returns-then-left-eq0
 returns-then-left-eq0 t c =
     single_wrote c.requires (field c.requires c.if-at-line.false c.piece_end-end.ensures)
-    (record { is = c.in-Some.ensures; told = c.destroys.ensures })
+    (record { is = c.helper_at-helper.ensures; told = c.destroys.ensures })
     (lowest c.requires.small c.if-destroys.false c.lowest_row-low.ensures.0 c.bifurcations-left.type_inv c.bifurcations-left.ensures)
     c.if-left-eq0.true c.args.work.now _ _
     c.put_rows-next.ensures
@@ -70,7 +66,7 @@ returns-then-left-eq0 t c =
 pub keep-requires : goal.keep-requires
 keep-requires t c = (
   left_one c.requires (field c.requires c.if-at-line.false c.piece_end-end.ensures)
-      (record { is = c.in-Some.ensures; told = c.destroys.ensures })
+      (record { is = c.helper_at-helper.ensures; told = c.destroys.ensures })
       (lowest c.requires.small c.if-destroys.false c.lowest_row-low.ensures.0 c.bifurcations-left.type_inv c.bifurcations-left.ensures)
       (omega (arith, c.if-left-eq0.false)),
   search rules,
@@ -87,7 +83,7 @@ put_rows-requires t c =
 pub returns : goal.returns
 returns t c =
     twofold_wrote c.requires (field c.requires c.if-at-line.false c.piece_end-end.ensures)
-    (record { is = c.in-Some.ensures; told = c.destroys.ensures })
+    (record { is = c.helper_at-helper.ensures; told = c.destroys.ensures })
     (lowest c.requires.small c.if-destroys.false c.lowest_row-low.ensures.0 c.bifurcations-left.type_inv c.bifurcations-left.ensures)
     (omega (arith, c.if-left-eq0.false))
     c.args.work.now _ _ _ _ c.keep.result c.keep.ensures.0 (omega (arith, c.requires.room)) c.put_rows-next.ensures

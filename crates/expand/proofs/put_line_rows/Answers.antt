@@ -1,17 +1,16 @@
 -- `expand::put_line_rows` meets its contract: the fields after the coefficient are the line's ladders.
-use Rattle.expand.proofs.Fields.{coefficient_light, line_broken, line_writable, line_wrote}
+use Rattle.expand.proofs.Fields.{coefficient_light, line_writable, line_wrote}
 use Rattle.expand.proofs.put_line_rows.Goals as goal
 
-pub start_at-requires : goal.start_at-requires
-start_at-requires c =
+pub start_at-start-requires : goal.start_at-start-requires
+start_at-start-requires c =
     let piece = c.piece_end-end.ensures in (piece.1, coefficient_light c.requires piece.0)
-
-pub returns-in_default : goal.returns-in_default
-returns-in_default c = line_broken c.requires c.piece_end-end.ensures.0 c.in_default.ensures c.args.work.now
 
 pub put_rows-requires : goal.put_rows-requires
 put_rows-requires c =
-    let piece = c.piece_end-end.ensures in line_writable c.requires piece.0 c.in-Some.ensures piece.1
+    let piece = c.piece_end-end.ensures in
+    line_writable c.requires piece.0 c.start_at-start.ensures piece.1
 
 pub returns : goal.returns
-returns c = line_wrote c.requires c.piece_end-end.ensures.0 c.in-Some.ensures c.args.work.now _ _ c.put_rows.ensures
+returns c =
+    line_wrote c.requires c.piece_end-end.ensures.0 c.start_at-start.ensures c.args.work.now _ _ c.put_rows.ensures

@@ -4,4 +4,4 @@ use Rattle.expand.proofs.start_at.Goals as goal
 
 pub returns : goal.returns
 returns c =
-    start_is _ c.requires.1 _ c.in_ok-c.ensures _ (record { sfits = c.signed_coeff-coeff.type_inv }) c.signed_coeff-coeff.ensures
+    start_is _ c.requires.1 _ c.coefficient_of-c.ensures _ (record { sfits = c.signed_coeff-coeff.type_inv }) c.signed_coeff-coeff.ensures

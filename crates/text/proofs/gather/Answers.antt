@@ -12,8 +12,9 @@ put_line_rows-used-requires c =
 
 pub loop-at-preserved : goal.loop-at-preserved
 loop-at-preserved c =
+    let rows = c.put_line_rows-used.ensures in
     let piece = c.piece_end-end.ensures in
-    going_on _ _ _ _ _ c.loop-at.invariant c.loop-at-test.true _ piece.0 piece.1 _ _ c.put_line_rows-used.ensures
+    going_on _ _ _ _ _ c.loop-at.invariant c.loop-at-test.true _ piece.0 piece.1 _ _ rows.0 rows.1
 
 pub returns : goal.returns
 returns c = going_ends _ _ _ _ _ c.loop-at.invariant c.loop-at-test.false

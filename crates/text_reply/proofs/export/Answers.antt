@@ -5,10 +5,8 @@ use Rattle.reply.proofs.Replies.{record_told, line_told}
 use Rattle.text_reply.proofs.TextReplies.{export_shape}
 use Rattle.text_reply.proofs.export.Goals as goal
 
-pub returns-then-refusal-eq0 : goal.returns-then-refusal-eq0
-returns-then-refusal-eq0 c =
-    record_told (export_shape (length c.args.out.now) (read_as 1 c.args.a.now)) c.export-e.ensures c.if-refusal-eq0.true
+pub returns-in-Ok : goal.returns-in-Ok
+returns-in-Ok c = record_told (export_shape (length c.args.out.now) (read_as 1 c.args.a.now)) c.in-Ok.ensures
 
-pub returns : goal.returns
-returns c =
-    line_told c.export-e.auto.out c.export-e.ensures c.if-refusal-eq0.false c.tell.ensures
+pub returns-in-Err : goal.returns-in-Err
+returns-in-Err c = line_told c.export.auto.out c.in-Err.ensures c.tell.ensures

@@ -1,5 +1,5 @@
 use Rattle.decimals.proofs.Numbers.{Reading}
-use Rattle.decimals.proofs.read_number.Given as goal
+use Rattle.decimals.proofs.value_of.Given as goal
 
 abbrev pub invariant-loop-b : goal.invariant-loop-b
 invariant-loop-b l = Reading l.s l.value l.b-index
