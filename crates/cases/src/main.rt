@@ -85,7 +85,7 @@ fn holds(out: &[u8; 96], words: &[u64; 12]) -> bool {
 fn product_is(l_cre: u64, l_ann: u64, r_cre: u64, r_ann: u64, n: u64, words: &[u64; 12]) -> bool {
     let mut out = [255u8; 96];
     let answer = products::mul_cmpnts(l_cre, l_ann, r_cre, r_ann, &mut out);
-    answer.refusal.number == 0 && answer.branches == n && holds(&out, words)
+    answer.is_ok_and(|w| w.branches == n) && holds(&out, words)
 }
 
 // Is it one row, {cre|ann} with this coefficient?

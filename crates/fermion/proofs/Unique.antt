@@ -6,7 +6,9 @@ use lib.IntN.{ℤ}
 use lib.Ieee.{Float}
 use Rattle.lent.specs.Outputs.{Output}
 use Rattle.record.specs.Operands.{Operand}
-use Rattle.mat_elem.specs.declared.Projected.{Projected}
+use Rattle.std.specs.Prelude.{Result}
+use Rattle.modes.specs.declared.Refusal.{Refusal}
+use Rattle.mat_elem.specs.declared.Row.{Row}
 use Rattle.float_elem.specs.Answers.{Told}
 use Rattle.shelf.specs.Requests.{Outcome}
 use Rattle.fermion.specs.Face.{Fills, FillsClean, FillsFloat, FillsMatrix, FillsReport, FillsShelf}
@@ -31,7 +33,7 @@ pub fills_float_one : {t : Told} {value value' : List Float} {answer answer' : L
 fills_float_one g h = (g.floats ∙ sym h.floats, g.numbers ∙ sym h.numbers)
 
 -- the call that fills a matrix
-pub matrix_one : {p : Projected} {matrix matrix' : List ℤ} {answer answer' : List ℕ} → FillsMatrix p matrix answer → FillsMatrix p matrix' answer'
+pub matrix_one : {p : Result (List Row) Refusal} {matrix matrix' : List ℤ} {answer answer' : List ℕ} → FillsMatrix p matrix answer → FillsMatrix p matrix' answer'
     → (matrix ≡ matrix') × (answer ≡ answer')
 matrix_one g h = (g.entries ∙ sym h.entries, g.numbers ∙ sym h.numbers)
 

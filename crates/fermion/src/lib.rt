@@ -12,7 +12,7 @@ ghost use Rattle.adjoint.specs.Adjoint.{adjointed};
 ghost use Rattle.adjoint.specs.Hermitian.{hermitian_of};
 ghost use Rattle.mat_elem.specs.Elements.{element_of};
 ghost use Rattle.mat_elem.specs.Matrix.{EightNumbers, EightRows, projected_of};
-ghost use Rattle.float_elem.specs.Answers.{told_by};
+ghost use Rattle.float_elem.specs.Sums.{plus_zero};
 ghost use Rattle.float_elem.specs.Elements.{float_element};
 ghost use Rattle.compare.specs.Comparison.{compared_of};
 ghost use Rattle.record.specs.Refusals.{checked_of};
@@ -22,16 +22,16 @@ ghost use Rattle.text.specs.Export.{export_of};
 ghost use Rattle.shelf.specs.Requests.{Put, Get, Drop};
 ghost use Rattle.shelf.specs.Steps.{Clear, By, step};
 ghost use Rattle.figures.specs.Figures.{conserves_of, max_n_body_of, active_modes_of};
-ghost use Rattle.fermion.specs.Face.{apply_answer, written_answer, answered, checked_answer, tested_answer, measured_answer, stretch_answer, element_answer, Fills, FillsClean};
-ghost use Rattle.fermion.specs.Face.{float_values, float_answer, FillsFloat, compared_answer, branches_answer, FillsReport, in_rows, FillsMatrix, shelved_answer, FillsShelf};
+ghost use Rattle.fermion.specs.Face.{answered, own, apply_answer, written_five, written_answer, checked_five, checked_answer, tested_answer, measured_answer, stretch_answer, element_answer, Fills, FillsClean};
+ghost use Rattle.fermion.specs.Face.{FillsFloat, compared_five, compared_answer, branches_five, branches_answer, counted_five, FillsReport, in_rows, FillsMatrix, FillsShelf};
 
-use figures::Measured;
-use float_elem::FloatElement;
-use mat_elem::{Projected, Row};
+use branches::BranchCounts;
+use compare::Difference;
+use float_elem::Complex64;
+use mat_elem::Row;
 use modes::{Refusal, Written};
 use products::{ApplyResult, Blocked};
-use record::Tested;
-use shelf::Shelved;
+use record::Checked;
 
 // 1 for true
 fn flag(b: bool) -> u64
@@ -40,40 +40,68 @@ fn flag(b: bool) -> u64
     if b { 1 } else { 0 }
 }
 
-// the answer of a call that fills no output
-fn answer_of(r: Refusal, x: u64, y: u64, z: u64) -> [u64; 8]
-    ensures { result ≡ answered r x y z }
+// the answer of a call: five numbers of its value, or the refusal's three
+fn answer_of(told: Result<[u64; 5], Refusal>) -> [u64; 8]
+    ensures { result ≡ answered (λ five. five) told }
 {
-    [r.number, r.operand, r.place, 0, 0, x, y, z]
+    match told {
+        Ok(five) => {
+            let [len, branches, x, y, z] = five;
+            [0, 0, 0, len, branches, x, y, z]
+        }
+        Err(refusal) => [
+            refusal.reason.number(),
+            refusal.operand,
+            refusal.place,
+            0,
+            0,
+            0,
+            0,
+            0,
+        ],
+    }
 }
 
-fn tested(t: Tested) -> [u64; 8]
-    ensures { result ≡ tested_answer t }
+// the answer of a call that tells no number
+fn unvalued<T: Drop>(told: Result<T, Refusal>) -> [u64; 8]
+    ensures { result ≡ answered (λ _. own 0 0 0) told }
 {
-    answer_of(t.refusal, flag(t.holds), 0, 0)
+    match told {
+        Ok(_) => [0; 8],
+        Err(refusal) => answer_of(Err(refusal)),
+    }
 }
 
-fn measured(m: Measured) -> [u64; 8]
-    ensures { result ≡ measured_answer m }
+fn found(n: u64) -> [u64; 5]
+    ensures { result ≡ own n 0 0 }
 {
-    answer_of(m.refusal, m.value, 0, 0)
+    [0, 0, n, 0, 0]
+}
+
+// the answer of a call that finds a number
+fn measured(number: Result<u64, Refusal>) -> [u64; 8]
+    ensures { result ≡ measured_answer number }
+{
+    answer_of(number.map(found))
+}
+
+fn tested(holds: Result<bool, Refusal>) -> [u64; 8]
+    ensures { result ≡ tested_answer holds }
+{
+    measured(holds.map(flag))
+}
+
+fn filled(w: Written) -> [u64; 5]
+    ensures { result ≡ written_five w }
+{
+    [w.len as u64, w.branches, 0, 0, 0]
 }
 
 // the answer of a call that fills an output
-fn written(w: Written) -> [u64; 8]
+fn written(w: Result<Written, Refusal>) -> [u64; 8]
     ensures { result ≡ written_answer w }
 {
-    let r = w.refusal;
-    [
-        r.number,
-        r.operand,
-        r.place,
-        w.len as u64,
-        w.branches,
-        0,
-        0,
-        0,
-    ]
+    answer_of(w.map(filled))
 }
 
 #[unsafe(no_mangle)]
@@ -107,32 +135,35 @@ pub extern "C" fn fermion_mul_cmpnts(
 )
     ensures { Fills (multiplied l_cre l_ann r_cre r_ann (length out.old)) out.new answer.new }
 {
-    let w = products::mul_cmpnts(l_cre, l_ann, r_cre, r_ann, out);
-    *answer = written(w);
+    *answer = written(products::mul_cmpnts(l_cre, l_ann, r_cre, r_ann, out));
+}
+
+// modes, terms and weight
+fn accepted(c: Checked) -> [u64; 5]
+    ensures { result ≡ checked_five c }
+{
+    [0, 0, c.modes, c.terms as u64, c.weight]
 }
 
 #[unsafe(no_mangle)]
 pub extern "C" fn fermion_check(a: &[u8], answer: &mut [u64; 8])
     ensures { answer.new ≡ checked_answer (checked_of 1 a.now) }
 {
-    let c = record::check(a, 1);
-    *answer = answer_of(c.refusal, c.modes, c.terms as u64, c.weight);
+    *answer = answer_of(record::check(a, 1).map(accepted));
 }
 
 #[unsafe(no_mangle)]
 pub extern "C" fn fermion_add(a: &[u8], b: &[u8], out: &mut [u8], answer: &mut [u64; 8])
     ensures { Fills (added (length out.old) (read_as 1 a.now) (read_as 2 b.now)) out.new answer.new }
 {
-    let w = lincomb::add(a, b, out);
-    *answer = written(w);
+    *answer = written(lincomb::add(a, b, out));
 }
 
 #[unsafe(no_mangle)]
 pub extern "C" fn fermion_sub(a: &[u8], b: &[u8], out: &mut [u8], answer: &mut [u64; 8])
     ensures { Fills (subtracted (length out.old) (read_as 1 a.now) (read_as 2 b.now)) out.new answer.new }
 {
-    let w = lincomb::sub(a, b, out);
-    *answer = written(w);
+    *answer = written(lincomb::sub(a, b, out));
 }
 
 #[unsafe(no_mangle)]
@@ -145,8 +176,7 @@ pub extern "C" fn fermion_mul(
 )
     ensures { FillsClean (product_of (length work.old) (length out.old) (read_as 1 a.now) (read_as 2 b.now)) out.new answer.new (length work.old) work.new }
 {
-    let w = multiply::mul(a, b, work, out);
-    *answer = written(w);
+    *answer = written(multiply::mul(a, b, work, out));
 }
 
 #[unsafe(no_mangle)]
@@ -159,8 +189,7 @@ pub extern "C" fn fermion_commutator(
 )
     ensures { FillsClean (commutator_of (length work.old) (length out.old) (read_as 1 a.now) (read_as 2 b.now)) out.new answer.new (length work.old) work.new }
 {
-    let w = multiply::commutator(a, b, work, out);
-    *answer = written(w);
+    *answer = written(multiply::commutator(a, b, work, out));
 }
 
 #[unsafe(no_mangle)]
@@ -173,25 +202,28 @@ pub extern "C" fn fermion_anticommutator(
 )
     ensures { FillsClean (anticommutator_of (length work.old) (length out.old) (read_as 1 a.now) (read_as 2 b.now)) out.new answer.new (length work.old) work.new }
 {
-    let w = multiply::anticommutator(a, b, work, out);
-    *answer = written(w);
+    *answer = written(multiply::anticommutator(a, b, work, out));
+}
+
+// the branches of a b and of b a
+fn counted(c: BranchCounts) -> [u64; 5]
+    ensures { result ≡ branches_five c }
+{
+    [0, c.forward, c.backward, 0, 0]
 }
 
 #[unsafe(no_mangle)]
 pub extern "C" fn fermion_branches(a: &[u8], b: &[u8], answer: &mut [u64; 8])
     ensures { answer.new ≡ branches_answer (branches_told (read_as 1 a.now) (read_as 2 b.now)) }
 {
-    let c = branches::branches(a, b);
-    let r = c.refusal;
-    *answer = [r.number, r.operand, r.place, 0, c.forward, c.backward, 0, 0];
+    *answer = answer_of(branches::branches(a, b).map(counted));
 }
 
 #[unsafe(no_mangle)]
 pub extern "C" fn fermion_adjoint(a: &[u8], out: &mut [u8], answer: &mut [u64; 8])
     ensures { Fills (adjointed (length out.old) (read_as 1 a.now)) out.new answer.new }
 {
-    let w = adjoint::adjoint(a, out);
-    *answer = written(w);
+    *answer = written(adjoint::adjoint(a, out));
 }
 
 #[unsafe(no_mangle)]
@@ -232,25 +264,31 @@ pub extern "C" fn fermion_import(
 )
     ensures { FillsClean (import_of m (length work.old) (length out.old) text.now) out.new answer.new (length work.old) work.new }
 {
-    let w = text::import(m, text, work, out);
-    *answer = written(w);
+    *answer = written(text::import(m, text, work, out));
 }
 
 #[unsafe(no_mangle)]
 pub extern "C" fn fermion_export(a: &[u8], out: &mut [u8], answer: &mut [u64; 8])
     ensures { Fills (export_of (length out.old) (read_as 1 a.now)) out.new answer.new }
 {
-    let w = text::export(a, out);
-    *answer = written(w);
+    *answer = written(text::export(a, out));
+}
+
+// a record's own judgement: 1, or the number and the place of its refusal
+fn judged(own: Result<(), Refusal>) -> [u64; 5]
+    ensures { result ≡ counted_five own }
+{
+    match own {
+        Ok(()) => [0, 0, 1, 0, 0],
+        Err(refusal) => [0, 0, 0, refusal.reason.number(), refusal.place],
+    }
 }
 
 #[unsafe(no_mangle)]
 pub extern "C" fn fermion_report_add(a: &[u8], report: &mut [u64; 201], answer: &mut [u64; 8])
     ensures { FillsReport report.old (read_as 1 a.now) report.new answer.new }
 {
-    let c = report::add(a, report);
-    let own = c.own;
-    *answer = answer_of(c.refusal, flag(c.accepted), own.number, own.place);
+    *answer = answer_of(report::add(a, report).map(judged));
 }
 
 #[unsafe(no_mangle)]
@@ -265,31 +303,23 @@ pub extern "C" fn fermion_block(a: &[u8], ann: u64, answer: &mut [u64; 8])
 pub extern "C" fn fermion_element(a: &[u8], bra: u64, ket: u64, answer: &mut [u64; 8])
     ensures { answer.new ≡ element_answer (element_of (read_as 1 a.now) bra ket) }
 {
-    let e = mat_elem::element(a, bra, ket);
-    *answer = answer_of(e.refusal, integers::bits(e.value), 0, 0);
+    *answer = measured(mat_elem::element(a, bra, ket).map(integers::bits));
 }
 
-// re and im, plus zero where the element has none
-fn float_values(e: FloatElement) -> [f64; 2]
-    ensures { result ≡ float_values (told_by e) }
+// re and im, plus zero for the one that a real has not
+fn real(x: f64) -> [f64; 2]
+    ensures { result ≡ x ∷ plus_zero ∷ [] }
 {
-    match e {
-        FloatElement::Real(x) => [x, 0.0],
-        FloatElement::Complex(z) => [z.re, z.im],
-        FloatElement::Refused(_) => [0.0, 0.0],
-    }
+    [x, 0.0]
 }
 
-fn float_answer(e: FloatElement) -> [u64; 8]
-    ensures { result ≡ float_answer (told_by e) }
+fn complex(z: Complex64) -> [f64; 2]
+    ensures { result ≡ z.re ∷ z.im ∷ [] }
 {
-    match e {
-        FloatElement::Real(_) => answer_of(Refusal::NONE, 0, 0, 0),
-        FloatElement::Complex(_) => answer_of(Refusal::NONE, 0, 0, 0),
-        FloatElement::Refused(r) => answer_of(r, 0, 0, 0),
-    }
+    [z.re, z.im]
 }
 
+#[tactic(auto, using(crate::proofs::Telling::fills_float))]
 #[unsafe(no_mangle)]
 pub extern "C" fn fermion_mat_elem_real(
     m: u64,
@@ -303,11 +333,12 @@ pub extern "C" fn fermion_mat_elem_real(
 )
     ensures { FillsFloat (float_element m cre.now ann.now (coeff.now ∷ []) bra ket) value.new answer.new }
 {
-    let e = float_elem::mat_elem_real(m, cre, ann, coeff, bra, ket);
-    *value = float_values(e);
-    *answer = float_answer(e);
+    let element = float_elem::mat_elem_real(m, cre, ann, coeff, bra, ket);
+    *value = element.map_or([0.0; 2], real);
+    *answer = unvalued(element);
 }
 
+#[tactic(auto, using(crate::proofs::Telling::fills_float))]
 #[unsafe(no_mangle)]
 pub extern "C" fn fermion_mat_elem_complex(
     m: u64,
@@ -322,17 +353,26 @@ pub extern "C" fn fermion_mat_elem_complex(
 )
     ensures { FillsFloat (float_element m cre.now ann.now (re.now ∷ im.now ∷ []) bra ket) value.new answer.new }
 {
-    let e = float_elem::mat_elem_complex(m, cre, ann, re, im, bra, ket);
-    *value = float_values(e);
-    *answer = float_answer(e);
+    let element = float_elem::mat_elem_complex(m, cre, ann, re, im, bra, ket);
+    *value = element.map_or([0.0; 2], complex);
+    *answer = unvalued(element);
+}
+
+// 1 for equal records, or the bra and the ket that are named
+fn compared(found: Option<Difference>) -> [u64; 5]
+    ensures { result ≡ compared_five found }
+{
+    match found {
+        None => [0, 0, 1, 0, 0],
+        Some(named) => [0, 0, 0, named.bra, named.ket],
+    }
 }
 
 #[unsafe(no_mangle)]
 pub extern "C" fn fermion_compare(a: &[u8], b: &[u8], answer: &mut [u64; 8])
     ensures { answer.new ≡ compared_answer (compared_of (read_as 1 a.now) (read_as 2 b.now)) }
 {
-    let c = compare::compare(a, b);
-    *answer = answer_of(c.refusal, flag(c.equal), c.bra, c.ket);
+    *answer = answer_of(compare::compare(a, b).map(compared));
 }
 
 // the i-th row to its eight numbers
@@ -344,11 +384,10 @@ fn put_row(m: &mut [i64; 64], i: usize, row: Row)
 }
 
 // the eight rows one after the other
-fn in_rows(p: Projected) -> [i64; 64]
-    requires { EightRows p.rows }
-    ensures { result ≡ in_rows p.rows }
+fn in_rows(rows: [Row; 8]) -> [i64; 64]
+    requires { EightRows rows }
+    ensures { result ≡ in_rows rows }
 {
-    let rows = p.rows;
     let mut m = [0i64; 64];
     for i in 0..8 {
         put_row(&mut m, i, rows[i]);
@@ -356,6 +395,7 @@ fn in_rows(p: Projected) -> [i64; 64]
     m
 }
 
+#[tactic(auto, using(crate::proofs::Telling::fills_matrix))]
 #[unsafe(no_mangle)]
 pub extern "C" fn fermion_mat_ortho_projected(
     a: &[u8],
@@ -365,42 +405,25 @@ pub extern "C" fn fermion_mat_ortho_projected(
 )
     ensures { FillsMatrix (projected_of (read_as 1 a.now) basis.now) matrix.new answer.new }
 {
-    let p = mat_elem::mat_ortho_projected(a, basis);
-    *matrix = in_rows(p);
-    *answer = answer_of(p.refusal, 0, 0, 0);
-}
-
-// the answer of a call on a shelf
-fn shelved(s: Shelved) -> [u64; 8]
-    ensures { result ≡ shelved_answer s }
-{
-    let r = s.refusal;
-    [
-        r.number,
-        r.operand,
-        r.place,
-        s.len as u64,
-        0,
-        s.slot as u64,
-        0,
-        0,
-    ]
+    let projected = mat_elem::mat_ortho_projected(a, basis);
+    *matrix = projected.map_or([0; 64], in_rows);
+    *answer = unvalued(projected);
 }
 
 #[unsafe(no_mangle)]
 pub extern "C" fn fermion_shelf_clear(shelf: &mut [u8], answer: &mut [u64; 8])
     ensures { FillsShelf (step Clear shelf.old) [] shelf.new answer.new }
 {
-    let s = shelf::clear(shelf);
-    *answer = shelved(s);
+    shelf::clear(shelf);
+    *answer = [0; 8];
 }
 
 #[unsafe(no_mangle)]
 pub extern "C" fn fermion_shelf_put(shelf: &mut [u8], party: u64, a: &[u8], answer: &mut [u64; 8])
     ensures { FillsShelf (step (By party (Put a.now)) shelf.old) [] shelf.new answer.new }
 {
-    let s = shelf::put(shelf, party, a);
-    *answer = shelved(s);
+    let put = shelf::put(shelf, party, a);
+    *answer = measured(put.map(|slot| slot as u64));
 }
 
 #[unsafe(no_mangle)]
@@ -413,14 +436,13 @@ pub extern "C" fn fermion_shelf_get(
 )
     ensures { FillsShelf (step (By party (Get slot (length out.old))) shelf.now) out.new shelf.now answer.new }
 {
-    let s = shelf::get(shelf, party, slot, out);
-    *answer = shelved(s);
+    let got = shelf::get(shelf, party, slot, out);
+    *answer = written(got.map(|len| Written { len, branches: 0 }));
 }
 
 #[unsafe(no_mangle)]
 pub extern "C" fn fermion_shelf_drop(shelf: &mut [u8], party: u64, slot: u64, answer: &mut [u64; 8])
     ensures { FillsShelf (step (By party (Drop slot)) shelf.old) [] shelf.new answer.new }
 {
-    let s = shelf::drop(shelf, party, slot);
-    *answer = shelved(s);
+    *answer = unvalued(shelf::drop(shelf, party, slot));
 }

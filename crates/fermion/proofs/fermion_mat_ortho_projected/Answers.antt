@@ -1,6 +1,7 @@
 -- `fermion::fermion_mat_ortho_projected` meets its contract.
+use mathlib.Core.Path.{sym, ◌∙◌}
 use Rattle.mat_elem.proofs.Fitting.{projected_rows}
 use Rattle.fermion.proofs.fermion_mat_ortho_projected.Goals as goal
 
-pub in_rows-requires : goal.in_rows-requires
-in_rows-requires c = rw c.mat_ortho_projected-p.ensures (projected_rows _ _)
+pub map_or-requires : goal.map_or-requires
+map_or-requires c = λ rows e. projected_rows _ _ rows (sym e ∙ c.mat_ortho_projected-projected.ensures)
