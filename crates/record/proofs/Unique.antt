@@ -55,8 +55,8 @@ one_order t u r s = one
 pub one_follows : (last : Option Term) (t : Term) (r s : Bool) → r ≡ follows last t → s ≡ follows last t → r ≡ s
 one_follows last t r s = one
 
-pub one_count_before : (l : List ℕ) (n : ℕ) (t : Term) (r s : ℕ) → r ≡ count_if (earlier t) (terms_in l n) → s ≡ count_if (earlier t) (terms_in l n) → r ≡ s
-one_count_before l n t r s = one
+pub one_count_before : (ts : List Term) (t : Term) (r s : ℕ) → r ≡ count_if (earlier t) ts → s ≡ count_if (earlier t) ts → r ≡ s
+one_count_before ts t r s = one
 
 pub one_size : (t : Term) (r s : ℕ) → (r ≡ nat_abs t.coeff) × (r ≤ 2 ^ 63) → (s ≡ nat_abs t.coeff) × (s ≤ 2 ^ 63) → r ≡ s
 one_size t r s p q = one p.0 q.0

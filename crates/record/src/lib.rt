@@ -10,12 +10,15 @@ ghost use Rattle.record.specs.Refusals.{term_refusal, checked_of};
 ghost use Rattle.record.specs.Reading.{At, Holds};
 ghost use Rattle.lent.specs.Outputs.{Gives, filled_output};
 ghost use Rattle.modes.specs.Counts.{count};
+ghost use Rattle.std.specs.Prelude.{List};
+ghost use Rattle.modes.specs.declared.Term.{Term};
 ghost use Rattle.record.specs.Weights.{heavier_by};
 ghost use Rattle.record.specs.Counting.{count_if, earlier};
 ghost use Rattle.record.specs.Blocks.{ann_below, block_of, bytes_in};
 
 use modes::{ModeSpace, Reason, Refusal, Term, Written};
 use places::Places;
+use std::marker::Model;
 
 // The bytes of a header, and of the longest record.
 pub const HEADER: usize = 32;
@@ -143,8 +146,8 @@ pub fn column_places(n: usize) -> Places
     }
 }
 
-// The i-th of n terms. Whatever reads a record reads it by this.
-pub fn read_term(s: &[u8], n: usize, i: usize) -> Term
+// The i-th of n terms.
+fn read_term(s: &[u8], n: usize, i: usize) -> Term
     requires { Holds s.now n × (i < n) }
     ensures { At (terms_in s.now n) i result }
 {
@@ -152,6 +155,76 @@ pub fn read_term(s: &[u8], n: usize, i: usize) -> Term
     let cre = lent::word(s, 32 + 8 * n + 8 * i);
     let coeff = integers::signed(lent::word(s, 32 + 16 * n + 8 * i));
     Term { cre, ann, coeff }
+}
+
+// The terms that stand in a record's bytes. What reads a record reads it by this.
+#[derive(Drop)]
+pub struct Terms<'a> {
+    bytes: &'a [u8],
+    count: usize,
+}
+
+impl<'a> Model for Terms<'a> {
+    ghost Value = { List Term };
+
+    ghost view = { λ s. terms_in s.bytes.now s.count };
+
+    ghost invariant = { λ s. Holds s.bytes.now s.count };
+}
+
+impl<'a> Terms<'a> {
+    pub fn of(bytes: &'a [u8], count: usize) -> Terms<'a>
+        requires { Holds bytes.now count }
+        ensures { result ≡ terms_in bytes.now count }
+    {
+        Terms { bytes, count }
+    }
+
+    pub fn len(&self) -> usize
+        ensures { result ≡ length self.now }
+    {
+        self.count
+    }
+
+    // the i-th of them
+    #[inline]
+    pub fn get(&self, i: usize) -> Term
+        requires { i < length self.now }
+        ensures { At self.now i result }
+    {
+        read_term(self.bytes, self.count, i)
+    }
+
+    // how many of them stand before t, found by halving: std's search is of a slice, and the terms lie in three columns
+    pub fn count_before(&self, t: Term) -> usize
+        requires { Ascending self.now }
+        ensures { result ≡ count_if (earlier t) self.now }
+    {
+        let mut low = 0;
+        let mut high = self.len();
+        while low < high {
+            let middle = low + (high - low) / 2;
+            let u = self.get(middle);
+            if is_before(u, t) {
+                low = middle + 1;
+            } else {
+                high = middle;
+            }
+        }
+        low
+    }
+
+    // how many have an annihilation word below `ann`: those before the first term that could have it
+    fn count_below(&self, ann: u64) -> usize
+        requires { Ascending self.now }
+        ensures { result ≡ count_if (ann_below ann) self.now }
+    {
+        self.count_before(Term {
+            cre: 0,
+            ann,
+            coeff: 0,
+        })
+    }
 }
 
 // Does t stand before u?
@@ -228,8 +301,9 @@ fn check_terms(s: &[u8], operand: u64, m: u64, n: usize) -> Result<Checked, Refu
     let space = ModeSpace { count: m };
     let mut last: Option<Term> = None;
     let mut w = 0;
+    let terms = Terms::of(s, n);
     for i in 0..n {
-        let t = read_term(s, n, i);
+        let t = terms.get(i);
         let up = follows(last, t);
         term_refusal(space, operand, i as u64, up, t)?;
         w = heavier(w, size(t));
@@ -299,41 +373,6 @@ pub fn finish(out: &mut [u8], m: u64, n: usize, branches: u64) -> Written
     Written { len, branches }
 }
 
-// How many of the n terms stand before t, found by halving: std's search is of a slice, and the terms lie in three columns.
-pub fn count_before(s: &[u8], n: usize, t: Term) -> usize
-    requires { Holds s.now n × Ascending (terms_in s.now n) }
-    ensures { result ≡ count_if (earlier t) (terms_in s.now n) }
-{
-    let mut low = 0;
-    let mut high = n;
-    while low < high {
-        let middle = low + (high - low) / 2;
-        let u = read_term(s, n, middle);
-        if is_before(u, t) {
-            low = middle + 1;
-        } else {
-            high = middle;
-        }
-    }
-    low
-}
-
-// How many have an annihilation word below `ann`: those before the first term that could have it.
-fn count_below(s: &[u8], n: usize, ann: u64) -> usize
-    requires { Holds s.now n × Ascending (terms_in s.now n) }
-    ensures { result ≡ count_if (ann_below ann) (terms_in s.now n) }
-{
-    count_before(
-        s,
-        n,
-        Term {
-            cre: 0,
-            ann,
-            coeff: 0,
-        },
-    )
-}
-
 // How many have one up to `ann`: all if it is the largest word, which has none after it.
 fn count_up_to(s: &[u8], n: usize, ann: u64) -> usize
     requires { Holds s.now n × Ascending (terms_in s.now n) }
@@ -342,7 +381,8 @@ fn count_up_to(s: &[u8], n: usize, ann: u64) -> usize
     if ann == u64::MAX {
         return n;
     }
-    count_below(s, n, ann + 1)
+    let terms = Terms::of(s, n);
+    terms.count_below(ann + 1)
 }
 
 // Where the creations of the terms with the annihilation word `ann` stand in the record's bytes.
@@ -353,7 +393,8 @@ pub fn block_bounds(s: &[u8], ann: u64) -> Stretch
         return Stretch { start: 0, len: 0 };
     };
     let n = c.terms;
-    let first = count_below(s, n, ann);
+    let terms = Terms::of(s, n);
+    let first = terms.count_below(ann);
     let past = count_up_to(s, n, ann);
     if first == past {
         return Stretch { start: 0, len: 0 };

@@ -7,5 +7,8 @@ pub returns-then-ann-eq18446744073709551615 : goal.returns-then-ann-eq1844674407
 returns-then-ann-eq18446744073709551615 c =
     count_every c.args.s.now c.args.n _ (λ k. (c.shared_slice_known-1.given k).fits) c.requires.0 (omega (arith, c.if-ann-eq18446744073709551615.true))
 
+pub count_below-requires : goal.count_below-requires
+count_below-requires c = rw c.of-terms.ensures c.requires.1
+
 pub returns : goal.returns
-returns c = c.count_below.ensures
+returns c = rw c.of-terms.ensures at c.count_below.ensures
