@@ -106,7 +106,8 @@ module _ (a b : List ℕ) (r : Option Difference) (e : Ok r ≡ compared_of (rea
     agree : (c k : ℕ) → count 64 (bit k) < count 64 (bit d.ket) → coeff_of c k (terms_of a) ≡ coeff_of c k (terms_of b)
     agree c k l = go (same_or_not _ _)
       where
-        go : (coeff_of c k (terms_of a) ≡ coeff_of c k (terms_of b)) ⊎ Differ (terms_of a) (terms_of b) c k → coeff_of c k (terms_of a) ≡ coeff_of c k (terms_of b)
+        go : (coeff_of c k (terms_of a) ≡ coeff_of c k (terms_of b)) ⊎ Differ (terms_of a) (terms_of b) c k
+            → coeff_of c k (terms_of a) ≡ coeff_of c k (terms_of b)
         go (inl q) = q
         go (inr n) = absurd (none_fewer (Differ (terms_of a) (terms_of b)) _ listed d named_is c k l n)
 

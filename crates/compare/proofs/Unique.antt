@@ -9,5 +9,6 @@ use Rattle.std.specs.Prelude.{Option, Result}
 use Rattle.modes.specs.declared.Refusal.{Refusal}
 use Rattle.compare.specs.declared.Difference.{Difference}
 
-pub one_comparison : (a b : List ℕ) (r s : Result (Option Difference) Refusal) → r ≡ compared_of (read_as 1 a) (read_as 2 b) → s ≡ compared_of (read_as 1 a) (read_as 2 b) → r ≡ s
+pub one_comparison : (a b : List ℕ) (r s : Result (Option Difference) Refusal) → r ≡ compared_of (read_as 1 a) (read_as 2 b)
+    → s ≡ compared_of (read_as 1 a) (read_as 2 b) → r ≡ s
 one_comparison a b r s = one

@@ -1,15 +1,16 @@
 // The comparison of two records.
 #![tactic(auto)]
 
-ghost use Rattle.std.specs.Prelude.{◌≡◌, true};
+ghost use Rattle.std.specs.Prelude.{◌≡◌, true, ◌≤◌, ◌^◌};
 ghost use Rattle.record.specs.Operands.{read_as};
 ghost use Rattle.normal.specs.Normal.{drop_zeros};
 ghost use Rattle.lincomb.specs.Merging.{onward};
-ghost use Rattle.record.specs.Reading.{Sound};
+ghost use Rattle.record.specs.Terms.{weight};
 ghost use Rattle.compare.specs.Comparison.{ahead, named, compared_of};
 ghost use Rattle.compare.specs.Finding.{with_term};
 
 use modes::{Refusal, Sign, Term};
+use record::Terms;
 
 // Two words at which the elements of two records differ.
 #[derive(Clone, Copy)]
@@ -44,16 +45,18 @@ fn with_term(found: Option<Term>, t: Term) -> Option<Term>
 }
 
 // Both records gone through in step, as for their difference: its terms are those that differ.
-fn find(a: &[u8], na: usize, b: &[u8], nb: usize) -> Option<Difference>
-    requires { Sound a.now na × Sound b.now nb }
-    ensures { result ≡ named (drop_zeros (onward true a.now na b.now nb 0 0)) }
+fn find(a: &Terms, b: &Terms) -> Option<Difference>
+    requires { (weight a.now ≤ 2 ^ 60) × (weight b.now ≤ 2 ^ 60) }
+    ensures { result ≡ named (drop_zeros (onward true a.now 0 b.now 0)) }
 {
+    let na = a.len();
+    let nb = b.len();
     let mut found = None;
     let mut i = 0;
     let mut j = 0;
     // A step takes a term of one record or of both, so no range counts the steps.
-    while i + j < na + nb {
-        let s = lincomb::next(Sign::MINUS, a, na, i, b, nb, j);
+    while i < na || j < nb {
+        let s = lincomb::next(Sign::MINUS, a, i, b, j);
         found = with_term(found, s.term);
         i = s.left;
         j = s.right;
@@ -72,5 +75,7 @@ pub fn compare(a: &[u8], b: &[u8]) -> Result<Option<Difference>, Refusal>
     ensures { result ≡ compared_of (read_as 1 a.now) (read_as 2 b.now) }
 {
     let p = results::open_operands(a, b)?;
-    Ok(find(a, p.left, b, p.right))
+    let left = Terms::of(a, p.left);
+    let right = Terms::of(b, p.right);
+    Ok(find(&left, &right))
 }

@@ -19,11 +19,11 @@ use Rattle.lincomb.specs.Sums.{added, subtracted}
 
 pub twice : (added 82 (read_as 1 example) (read_as 2 example)).bytes ≡ encode 2
     (record { cre = 1; ann = 1; coeff = pos 2 } ∷ record { cre = 2; ann = 2; coeff = negsuc 1 } ∷ []) ++ zeros 2
-unfolding example bytes num num_at stored numbers same_numbers before weight header column columns together terms_in laid_out or_else inside term_refusal terms_refusal refusal_of
-    join insert collect drop_zeros result_refusal unless
+unfolding example bytes num num_at stored numbers same_numbers before weight header column columns together terms_in laid_out or_else inside
+    term_refusal terms_refusal refusal_of join insert collect drop_zeros result_refusal unless
 twice = refl
 
 pub nothing_left : (subtracted 34 (read_as 1 example) (read_as 2 example)).answer ≡ Ok (wrote 32 0)
-unfolding example bytes num num_at stored numbers same_numbers before weight header column columns together terms_in laid_out or_else inside term_refusal terms_refusal refusal_of
-    join insert collect drop_zeros result_refusal unless
+unfolding example bytes num num_at stored numbers same_numbers before weight header column columns together terms_in laid_out or_else inside
+    term_refusal terms_refusal refusal_of join insert collect drop_zeros result_refusal unless
 nothing_left = refl

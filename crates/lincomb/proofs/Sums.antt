@@ -2,7 +2,7 @@
 use mathlib.Core.Path.{◌≡◌, sym, ap, ap₂, ◌∙◌}
 use mathlib.Core.Bool.{Bool, true, false}
 use mathlib.Core.List.{List, ◌++◌, map}
-use Prim.Native.Nat.{ℕ}
+use Prim.Native.Nat.{ℕ, ◌^◌, ◌≤◌}
 use lib.IntN.{ℤ, neg_ℤ, ◌+ℤ◌}
 use lib.ListN.{length, take}
 use Rattle.record.specs.Operands.{read_as}
@@ -17,8 +17,8 @@ use Rattle.modes.proofs.Every.{every_append, every_map}
 use Rattle.lent.specs.Outputs.{refused_output, filled_output, Gives}
 use Rattle.products.specs.Operators.{signed, part, element}
 use Rattle.record.specs.Terms.{weight}
-use Rattle.record.specs.Layout.{encode, modes_of, terms_of}
-use Rattle.record.specs.Reading.{Sound}
+use Rattle.record.specs.Layout.{encode, modes_of, terms_in, terms_of}
+use Rattle.record.specs.Reading.{Holds, Sound}
 use Rattle.record.specs.Refusals.{refusal_of}
 use Rattle.record.specs.Canonical.{Inside, Canonical}
 use Rattle.record.proofs.Accepted.{accepted_canonical, sound}
@@ -34,44 +34,62 @@ use Rattle.results.specs.declared.Tally.{Tally}
 use Rattle.lincomb.proofs.Totals.{element_turn}
 use Rattle.lincomb.proofs.Merging.{ascending_turn, merge_normal}
 use Rattle.results.proofs.Results.{Opens, opens, shuts, first_fine, second_fine, same_modes, Deliverable, deliverable, verdict_same, result_canonical}
-use Rattle.record.proofs.Outputs.{refused_earlier, refused_late, delivers}
+
+-- ---- both records open, and their terms
+
+module _ (a b : List ℕ) (p : Opened) (ep : Ok p ≡ opened_of a b) where
+  ready : Opens a b p
+  ready = opens a b p ep
+
+  left_sound : Sound a p.left
+  left_sound = sound 1 a p.left ready.one ready.left
+
+  right_sound : Sound b p.right
+  right_sound = sound 2 b p.right ready.two ready.right
+
+  pub both_held : Holds a p.left × Holds b p.right
+  both_held = (left_sound.size, right_sound.size)
+
+  pub both_light : (ts us : List Term) → ts ≡ terms_in a p.left → us ≡ terms_in b p.right → (weight ts ≤ 2 ^ 60) × (weight us ≤ 2 ^ 60)
+  both_light ts us et eu = rw (et, eu) (left_sound.light, right_sound.light)
 
 -- ---- each way through the call
 
+-- what refuses the pair
+abbrev pair : List ℕ → List ℕ → Verdict
+pair a b = operands_refusal (read_as 1 a) (read_as 2 b)
+
+-- the terms of the result
+abbrev whole : Bool → List ℕ → List ℕ → List Term
+whole minus a b = sum_terms minus (read_as 1 a) (read_as 2 b)
+
 module _ (minus : Bool) (a b out : List ℕ) where
   pub pair_refused : (r : Refusal) → Err r ≡ opened_of a b → refused_output (length out) r ≡ combined minus (length out) (read_as 1 a) (read_as 2 b)
-  pair_refused r e =
-      refused_earlier (length out) 0 (operands_refusal (read_as 1 a) (read_as 2 b)) _ (modes_of a) (sum_terms minus (read_as 1 a) (read_as 2 b))
-      r (shuts a b r e)
+  pair_refused r e = refused_earlier (length out) 0 (pair a b) _ (modes_of a) (whole minus a b) r (shuts a b r e)
 
-  module _ (p : Opened) (ep : Ok p ≡ opened_of a b) where
-    ready : Opens a b p
-    ready = opens a b p ep
-
-    pub both_sound : Sound a p.left × Sound b p.right
-    both_sound = (sound 1 a p.left ready.one ready.left, sound 2 b p.right ready.two ready.right)
-
+  -- ts and us are the terms of the two
+  module _ (p : Opened) (ep : Ok p ≡ opened_of a b) (ts us : List Term) (et : ts ≡ terms_in a p.left) (eu : us ≡ terms_in b p.right) where
     -- the terms that the code goes through
     abbrev pub terms : List Term
-    terms = drop_zeros (onward minus a p.left b p.right 0 0)
+    terms = drop_zeros (onward minus ts 0 us 0)
 
-    terms_are : terms ≡ sum_terms minus (read_as 1 a) (read_as 2 b)
+    terms_are : terms ≡ whole minus a b
     terms_are =
-        rw (ready.left, ready.right)
-        (merge_normal (terms_of a) (map (turn minus) (terms_of b)) (accepted_canonical 1 a ready.one).ascending
-        (ascending_turn minus (terms_of b) (accepted_canonical 2 b ready.two).ascending))
+        let both = ready a b p ep in
+        rw (et, eu, both.left, both.right)
+        (merge_normal (terms_of a) (map (turn minus) (terms_of b)) (accepted_canonical 1 a both.one).ascending
+        (ascending_turn minus (terms_of b) (accepted_canonical 2 b both.two).ascending))
 
     module _ (t : Tally) (g : Tallied terms t) where
       judged : (late : Verdict) → late ≡ result_refusal (length out) t.terms t.weight
-          → late ≡ result_refusal (length out) (length (sum_terms minus (read_as 1 a) (read_as 2 b))) (weight (sum_terms minus (read_as 1 a) (read_as 2 b)))
+          → late ≡ result_refusal (length out) (length (whole minus a b)) (weight (whole minus a b))
       judged late e =
           e ∙ verdict_same (length out) terms t g ∙ ap (λ (ts : List Term). result_refusal (length out) (length ts) (weight ts)) terms_are
 
       pub result_refused : (r : Refusal) → Err r ≡ result_refusal (length out) t.terms t.weight
           → refused_output (length out) r ≡ combined minus (length out) (read_as 1 a) (read_as 2 b)
       result_refused r e =
-          refused_late (length out) 0 (operands_refusal (read_as 1 a) (read_as 2 b)) _ (modes_of a) (sum_terms minus (read_as 1 a) (read_as 2 b))
-          ready.pair r (judged _ e)
+          refused_late (length out) 0 (pair a b) _ (modes_of a) (whole minus a b) (ready a b p ep).pair r (judged _ e)
 
       module _ (x : Unit {0}) (fine : Ok x ≡ result_refusal (length out) t.terms t.weight) where
         pub room_enough : Deliverable (length out) t.terms t.weight
@@ -80,24 +98,23 @@ module _ (minus : Bool) (a b out : List ℕ) where
         -- the record that the code writes is the definition's
         pub result_delivered : filled_output (length out) 0 (encode p.modes terms) ≡ combined minus (length out) (read_as 1 a) (read_as 2 b)
         result_delivered =
-            ap₂ (λ (m : ℕ) (ts : List Term). filled_output (length out) 0 (encode m ts)) ready.modes terms_are
-            ∙ delivers (length out) 0 (operands_refusal (read_as 1 a) (read_as 2 b)) _ (modes_of a) (sum_terms minus (read_as 1 a) (read_as 2 b))
-            ready.pair x (judged _ fine)
+            ap₂ (λ (m : ℕ) (ts : List Term). filled_output (length out) 0 (encode m ts)) (ready a b p ep).modes terms_are
+            ∙ delivers (length out) 0 (pair a b) _ (modes_of a) (whole minus a b) (ready a b p ep).pair x (judged _ fine)
 
 -- ---- the theorems, of the bytes that a call leaves where it is not refused
 
 inside_turn : (m : ℕ) (minus : Bool) (t : Term) → Inside m t → Inside m (turn minus t)
 inside_turn m minus t h = record { ann = h.ann; cre = h.cre }
 
-module _ (minus : Bool) (room : ℕ) (a b : List ℕ) (r : Written) (after : List ℕ) (g : Gives (combined minus room (read_as 1 a) (read_as 2 b)) (Ok r) after) where
+module _ (minus : Bool) (room : ℕ) (a b : List ℕ)
+    (r : Written) (after : List ℕ) (g : Gives (combined minus room (read_as 1 a) (read_as 2 b)) (Ok r) after) where
   abbrev both : List Term
   both = terms_of a ++ map (turn minus) (terms_of b)
 
-  fine : (operands_refusal (read_as 1 a) (read_as 2 b) ≡ none) ×
-      (result_refusal room (length (sum_terms minus (read_as 1 a) (read_as 2 b))) (weight (sum_terms minus (read_as 1 a) (read_as 2 b))) ≡ none)
-  fine = none_refused room 0 (operands_refusal (read_as 1 a) (read_as 2 b)) _ (modes_of a) (sum_terms minus (read_as 1 a) (read_as 2 b)) r after g
+  fine : (pair a b ≡ none) × (result_refusal room (length (whole minus a b)) (weight (whole minus a b)) ≡ none)
+  fine = none_refused room 0 (pair a b) _ (modes_of a) (whole minus a b) r after g
 
-  form : Canonical (modes_of a) (sum_terms minus (read_as 1 a) (read_as 2 b))
+  form : Canonical (modes_of a) (whole minus a b)
   form =
       let left = accepted_canonical 1 a (first_fine a b fine.0) in
       let right : Every (Inside (modes_of a)) (terms_of b) = rw (same_modes a b fine.0) (accepted_canonical 2 b (second_fine a b fine.0)).inside in
@@ -107,13 +124,13 @@ module _ (minus : Bool) (room : ℕ) (a b : List ℕ) (r : Written) (after : Lis
 
   -- the output's record is accepted
   pub sum_accepted : (o : ℕ) → refusal_of o (take r.len after) ≡ none
-  sum_accepted = output_accepted room 0 (operands_refusal (read_as 1 a) (read_as 2 b)) _ (modes_of a) (sum_terms minus (read_as 1 a) (read_as 2 b)) r after g form
+  sum_accepted = output_accepted room 0 (pair a b) _ (modes_of a) (whole minus a b) r after g form
 
   pub sum_modes : modes_of (take r.len after) ≡ modes_of a
-  sum_modes = output_modes room 0 (operands_refusal (read_as 1 a) (read_as 2 b)) _ (modes_of a) (sum_terms minus (read_as 1 a) (read_as 2 b)) r after g form
+  sum_modes = output_modes room 0 (pair a b) _ (modes_of a) (whole minus a b) r after g form
 
   pub sum_terms_is : terms_of (take r.len after) ≡ sum_terms minus (read_as 1 a) (read_as 2 b)
-  sum_terms_is = output_terms room 0 (operands_refusal (read_as 1 a) (read_as 2 b)) _ (modes_of a) (sum_terms minus (read_as 1 a) (read_as 2 b)) r after g form
+  sum_terms_is = output_terms room 0 (pair a b) _ (modes_of a) (whole minus a b) r after g form
 
   -- its elements are those of the first record plus those of the second, with the sign
   pub sum_elements : (bra ket : ℕ) → element bra ket (terms_of (take r.len after)) ≡ element bra ket (terms_of a) +ℤ signed minus (element bra ket (terms_of b))

@@ -6,13 +6,12 @@ use Prim.Native.Nat.{ℕ, ◌+◌, ◌^◌, ◌≤◌}
 use native.Mathlib.Omega.{arith}
 use lib.Dec.{eqb}
 use lib.IntN.{nat_abs}
+use borrow.Author.Tests.{eqb-false}
 use lib.ListN.{length}
 use Rattle.modes.specs.declared.Term.{Term}
 use Rattle.integers.proofs.SignedNumbers.{abs_sum}
 use Rattle.products.proofs.Signs.{abs_signed}
 use Rattle.record.specs.Terms.{before, weight}
-use Rattle.record.specs.Layout.{terms_in}
-use Rattle.record.specs.Reading.{Sound}
 use Rattle.record.proofs.Checking.{weight_front, weight_none}
 use Rattle.normal.specs.Normal.{join, drop_zeros}
 use Rattle.normal.proofs.Sizes.{drop_length, drop_weight, drop_none}
@@ -41,11 +40,21 @@ weight_merge (t ∷ ts) (u ∷ us) = go (weight_merge ts (u ∷ us)) (weight_mer
     go a b c false false = omega (arith, c, abs_sum t.coeff u.coeff)
 
 -- both are at most 2^60, so that no sum of magnitudes leaves 64 bits
-pub light_together : (minus : Bool) (a b : List ℕ) (na nb : ℕ) → Sound a na → Sound b nb → weight (onward minus a na b nb 0 0) ≤ 2 ^ 61
-light_together minus a b na nb sa sb =
-    omega (arith, weight_merge (terms_in a na) (map (turn minus) (terms_in b nb)), weight_turn minus (terms_in b nb), sa.light, sb.light)
+pub light_together : (minus : Bool) (ts us : List Term) → weight ts ≤ 2 ^ 60 → weight us ≤ 2 ^ 60 → weight (onward minus ts 0 us 0) ≤ 2 ^ 61
+light_together minus ts us h k = omega (arith, weight_merge ts (map (turn minus) us), weight_turn minus us)
 
 -- ---- the count
+
+-- what is kept weighs one at least
+few : (ts : List Term) → length (drop_zeros ts) ≤ weight ts
+unfolding drop_zeros weight
+few [] = omega arith
+few (t ∷ ts) = go (few ts) (eqb (nat_abs t.coeff) 0) refl
+  where
+    go : length (drop_zeros ts) ≤ weight ts → (b : Bool) → eqb (nat_abs t.coeff) 0 ≡ b
+        → length (cond b (drop_zeros ts) (t ∷ drop_zeros ts)) ≤ nat_abs t.coeff + weight ts
+    go h true e = omega arith
+    go h false e = omega (arith, eqb-false _ _ e)
 
 -- a walk over the terms of whole, with left to come: n counted so far, of weight w
 pub record Tallying (whole left : List Term) (n w : ℕ) : Type 0 where
@@ -62,6 +71,10 @@ tally_goes whole left rest n w g t e k o ek eo =
 -- what is counted weighs no more than all
 pub tally_light : (whole left rest : List Term) (n w : ℕ) → Tallying whole left n w → (t : Term) → left ≡ t ∷ rest → w + nat_abs t.coeff ≤ weight whole
 tally_light whole left rest n w g t e = omega (arith, g.weigh, weight_front left rest t e)
+
+-- nor are they more
+pub tally_few : (whole left : List Term) (n w : ℕ) → Tallying whole left n w → n ≤ weight whole
+tally_few whole left n w g = omega (arith, g.terms, few whole)
 
 pub tally_ends : (whole left : List Term) (n w : ℕ) → Tallying whole left n w → left ≡ [] → Tallied (drop_zeros whole) (record { terms = n; weight = w })
 tally_ends whole left n w g e =

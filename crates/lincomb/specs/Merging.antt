@@ -1,8 +1,7 @@
--- How the code goes through two records in step. For inner functions only.
-use Rattle.std.specs.Prelude.{◌≡◌, ℕ, ◌+◌, ◌≤◌, ◌<◌, Bool, cond, List, [], ◌∷◌, map, drop}
+-- How the code goes through the terms of two records in step. For inner functions only.
+use Rattle.std.specs.Prelude.{◌≡◌, ℕ, ◌+◌, ◌≤◌, ◌<◌, Bool, cond, List, [], ◌∷◌, map, drop, length}
 use Rattle.modes.specs.declared.Term.{Term}
 use Rattle.record.specs.Terms.{before}
-use Rattle.record.specs.Layout.{terms_in}
 use Rattle.normal.specs.Normal.{join}
 use Rattle.lincomb.specs.Sums.{turn}
 use Rattle.lincomb.specs.declared.Step.{Step}
@@ -18,8 +17,8 @@ merge (t ∷ ts) (u ∷ us) =
     cond (before t u) (t ∷ first) (cond (before u t) (u ∷ second) (join t u ∷ both))
 
 -- what is left of the merged terms once i terms of the first and j of the second are taken
-abbrev pub onward : Bool → List ℕ → ℕ → List ℕ → ℕ → ℕ → ℕ → List Term
-onward minus a na b nb i j = merge (drop i (terms_in a na)) (map (turn minus) (drop j (terms_in b nb)))
+abbrev pub onward : Bool → List Term → ℕ → List Term → ℕ → List Term
+onward minus ts i us j = merge (drop i ts) (map (turn minus) (drop j us))
 
 -- 1 where the first of ts is the next term or a part of it, and 0 where it is not, or there is none
 abbrev pub taken : List Term → List Term → ℕ
@@ -28,10 +27,10 @@ taken (t ∷ ts) [] = 1
 taken (t ∷ ts) (u ∷ us) = cond (before u t) 0 1
 
 -- one step: the next term of these, and where each record goes on
-pub record Pulled (minus : Bool) (a : List ℕ) (na i : ℕ) (b : List ℕ) (nb j : ℕ) (s : Step) : Type 0 where
-  pub front : onward minus a na b nb i j ≡ s.term ∷ onward minus a na b nb s.left s.right
-  pub left : s.left ≡ i + taken (drop i (terms_in a na)) (map (turn minus) (drop j (terms_in b nb)))
-  pub right : s.right ≡ j + taken (map (turn minus) (drop j (terms_in b nb))) (drop i (terms_in a na))
-  pub left_in : s.left ≤ na
-  pub right_in : s.right ≤ nb
+pub record Pulled (minus : Bool) (ts : List Term) (i : ℕ) (us : List Term) (j : ℕ) (s : Step) : Type 0 where
+  pub front : onward minus ts i us j ≡ s.term ∷ onward minus ts s.left us s.right
+  pub left : s.left ≡ i + taken (drop i ts) (map (turn minus) (drop j us))
+  pub right : s.right ≡ j + taken (map (turn minus) (drop j us)) (drop i ts)
+  pub left_in : s.left ≤ length ts
+  pub right_in : s.right ≤ length us
   pub on : i + j < s.left + s.right

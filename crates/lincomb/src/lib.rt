@@ -6,12 +6,14 @@ ghost use Rattle.record.specs.Operands.{read_as};
 ghost use Rattle.lent.specs.Outputs.{Gives, filled_output};
 ghost use Rattle.record.specs.Layout.{encode};
 ghost use Rattle.normal.specs.Normal.{drop_zeros};
-ghost use Rattle.record.specs.Reading.{Holds, Sound};
+ghost use Rattle.record.specs.Terms.{weight};
+ghost use Rattle.record.specs.Reading.{Holds};
 ghost use Rattle.lincomb.specs.Sums.{turn, combined, added, subtracted};
 ghost use Rattle.lincomb.specs.Merging.{onward, Pulled};
 ghost use Rattle.results.specs.Tallies.{Tallied};
 
 use modes::{Refusal, Sign, Term, Written};
+use record::Terms;
 use results::Tally;
 
 // A term, and how many terms of each record are taken with it.
@@ -39,13 +41,15 @@ pub fn turned(sign: Sign, t: Term) -> Term
 }
 
 // The next term of two records, the second with its sign.
-pub fn next(sign: Sign, a: &[u8], na: usize, i: usize, b: &[u8], nb: usize, j: usize) -> Step
-    requires sound { Sound a.now na × Sound b.now nb }
-    requires inside { (i ≤ na) × (j ≤ nb) × (i + j < na + nb) }
-    ensures { Pulled sign.0 a.now na i b.now nb j result }
+pub fn next(sign: Sign, a: &Terms, i: usize, b: &Terms, j: usize) -> Step
+    requires light { (weight a.now ≤ 2 ^ 60) × (weight b.now ≤ 2 ^ 60) }
+    requires inside { (i ≤ length a.now) × (j ≤ length b.now) × (i + j < length a.now + length b.now) }
+    ensures { Pulled sign.0 a.now i b.now j result }
 {
+    let na = a.len();
+    let nb = b.len();
     if nb <= j {
-        let t = record::read_term(a, na, i);
+        let t = a.get(i);
         return Step {
             term: t,
             left: i + 1,
@@ -53,15 +57,15 @@ pub fn next(sign: Sign, a: &[u8], na: usize, i: usize, b: &[u8], nb: usize, j: u
         };
     }
     if na <= i {
-        let u = turned(sign, record::read_term(b, nb, j));
+        let u = turned(sign, b.get(j));
         return Step {
             term: u,
             left: i,
             right: j + 1,
         };
     }
-    let t = record::read_term(a, na, i);
-    let v = record::read_term(b, nb, j);
+    let t = a.get(i);
+    let v = b.get(j);
     // The order is that of the words, whatever the sign.
     if record::is_before(t, v) {
         return Step {
@@ -94,17 +98,19 @@ fn kept(size: u64) -> usize
 }
 
 // The result's terms counted and weighed, with nothing written.
-fn count_terms(sign: Sign, a: &[u8], na: usize, b: &[u8], nb: usize) -> Tally
-    requires { Sound a.now na × Sound b.now nb }
-    ensures { Tallied (drop_zeros (onward sign.0 a.now na b.now nb 0 0)) result }
+fn count_terms(sign: Sign, a: &Terms, b: &Terms) -> Tally
+    requires { (weight a.now ≤ 2 ^ 60) × (weight b.now ≤ 2 ^ 60) }
+    ensures { Tallied (drop_zeros (onward sign.0 a.now 0 b.now 0)) result }
 {
+    let na = a.len();
+    let nb = b.len();
     let mut i = 0;
     let mut j = 0;
     let mut n = 0;
     let mut w = 0;
     // A step takes a term of one record or of both, so no range counts the steps.
-    while i + j < na + nb {
-        let s = next(sign, a, na, i, b, nb, j);
+    while i < na || j < nb {
+        let s = next(sign, a, i, b, j);
         let t = s.term;
         let k = record::size(t);
         n += kept(k);
@@ -119,26 +125,19 @@ fn count_terms(sign: Sign, a: &[u8], na: usize, b: &[u8], nb: usize) -> Tally
 }
 
 // The record of the result's terms, of which there are n, with zeros past it.
-fn write_sum(
-    sign: Sign,
-    a: &[u8],
-    na: usize,
-    b: &[u8],
-    nb: usize,
-    out: &mut [u8],
-    m: u64,
-    n: usize,
-) -> Written
-    requires sound { Sound a.now na × Sound b.now nb }
-    requires fits { (n ≡ length (drop_zeros (onward sign.0 a.now na b.now nb 0 0))) × Holds out.old n × (n ≤ 2048) }
-    ensures { Gives (filled_output (length out.old) 0 (encode m (drop_zeros (onward sign.0 a.now na b.now nb 0 0)))) (Ok result) out.new }
+fn write_sum(sign: Sign, a: &Terms, b: &Terms, out: &mut [u8], m: u64, n: usize) -> Written
+    requires light { (weight a.now ≤ 2 ^ 60) × (weight b.now ≤ 2 ^ 60) }
+    requires fits { (n ≡ length (drop_zeros (onward sign.0 a.now 0 b.now 0))) × Holds out.old n × (n ≤ 2048) }
+    ensures { Gives (filled_output (length out.old) 0 (encode m (drop_zeros (onward sign.0 a.now 0 b.now 0)))) (Ok result) out.new }
 {
+    let na = a.len();
+    let nb = b.len();
     let mut i = 0;
     let mut j = 0;
     let mut k = 0;
     // A step takes a term of one record or of both, so no range counts the steps.
-    while i + j < na + nb {
-        let s = next(sign, a, na, i, b, nb, j);
+    while i < na || j < nb {
+        let s = next(sign, a, i, b, j);
         let t = s.term;
         if t.coeff != 0 {
             record::put_term(out, n, k, t);
@@ -158,11 +157,13 @@ fn combine(sign: Sign, a: &[u8], b: &[u8], out: &mut [u8]) -> Result<Written, Re
         Ok(p) => p,
         Err(refusal) => return lent::refuse(out, refusal),
     };
-    let t = count_terms(sign, a, p.left, b, p.right);
+    let left = Terms::of(a, p.left);
+    let right = Terms::of(b, p.right);
+    let t = count_terms(sign, &left, &right);
     if let Err(late) = results::verdict(out.len(), t.terms, t.weight) {
         return lent::refuse(out, late);
     }
-    Ok(write_sum(sign, a, p.left, b, p.right, out, p.modes, t.terms))
+    Ok(write_sum(sign, &left, &right, out, p.modes, t.terms))
 }
 
 // The record of the sum.

@@ -1,11 +1,12 @@
 use mathlib.Core.Bool.{true}
 use Prim.Native.Nat.{◌+◌, ◌-◌, ◌≤◌}
+use lib.ListN.{length}
 use Rattle.lincomb.specs.Merging.{onward}
 use Rattle.compare.proofs.Finding.{Finding}
 use Rattle.compare.proofs.find.Given as goal
 
 abbrev pub invariant-loop-i : goal.invariant-loop-i
-invariant-loop-i l = (l.i ≤ l.na) × (l.j ≤ l.nb) × Finding (onward true l.a l.na l.b l.nb 0 0) (onward true l.a l.na l.b l.nb l.i l.j) l.found
+invariant-loop-i l = (l.i ≤ length l.a) × (l.j ≤ length l.b) × Finding (onward true l.a 0 l.b 0) (onward true l.a l.i l.b l.j) l.found
 
 abbrev pub decreases-loop-i : goal.decreases-loop-i
-decreases-loop-i l = l.na + l.nb - (l.i + l.j)
+decreases-loop-i l = length l.a + length l.b - (l.i + l.j)

@@ -35,4 +35,5 @@ loop-i-preserved c =
 pub returns : goal.returns
 returns c =
     let v = c.loop-i.invariant in
-    rw (c.loop-i.auto.out, writing_ends _ _ _ c.requires.fits.0 _ _ v.2 (spent c.args.sign.0 _ _ _ _ _ _ v.0 v.1 (omega arith))) at c.finish.ensures
+    let done = spent c.args.sign.0 c.args.a.now c.loop-i.i c.args.b.now c.loop-i.j (omega arith) (omega arith) in
+    rw (c.loop-i.auto.out, writing_ends _ _ _ c.requires.fits.0 _ _ v.2 done) at c.finish.ensures
