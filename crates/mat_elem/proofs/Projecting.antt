@@ -44,10 +44,10 @@ module _ (a basis : List ℕ) where
     pub basis_refused : (r : Refusal) → Err r ≡ basis_refusal c.modes basis → Err r ≡ projected_of (read_as 1 a) basis
     basis_refused r f = second_refuses (refusal_of 1 a) _ Err _ ok.fine r (of_basis (Err r) f)
 
-    module _ (f : none ≡ basis_refusal c.modes basis) where
-      pub to_project : Sound a c.terms × (length basis ≤ 8)
-      to_project = (ok.held, basis_short c.modes basis (sym f))
+    pub terms_held : Sound a c.terms
+    terms_held = ok.held
 
+    module _ (f : none ≡ basis_refusal c.modes basis) where
       pub projected : (rows : List Row) → rows ≡ matrix_of (terms_in a c.terms) basis
           → ◌≡◌ {A = Result (List Row) Refusal} (Ok rows) (projected_of (read_as 1 a) basis)
       projected rows g =

@@ -3,16 +3,16 @@
 
 ghost use Rattle.std.specs.Prelude.{◌≡◌, ◌+◌, ◌≤◌, ◌<◌, ◌^◌, nat_abs, length, get_or, take, drop};
 ghost use Rattle.products.specs.Operators.{part, element};
-ghost use Rattle.record.specs.Layout.{terms_in};
+ghost use Rattle.record.specs.Terms.{weight};
 ghost use Rattle.record.specs.Operands.{read_as};
 ghost use Rattle.modes.specs.Refusals.{first_refusal};
-ghost use Rattle.record.specs.Reading.{Holds, Sound};
 ghost use Rattle.mat_elem.specs.Elements.{element_of};
 ghost use Rattle.mat_elem.specs.Passing.{passed};
 ghost use Rattle.mat_elem.specs.Matrix.{outside_at, stands, repeat_at, basis_refusal, row_of, matrix_of, projected_of};
 
 use modes::{ModeSpace, Reason, Refusal, Term};
 use products::ApplyResult;
+use record::Terms;
 
 // What one term adds at (bra, ket).
 fn part_of(t: Term, bra: u64, ket: u64) -> i64
@@ -28,14 +28,15 @@ fn part_of(t: Term, bra: u64, ket: u64) -> i64
     products::signed_coeff(sign, t.coeff)
 }
 
-// The first term from `from` on that changes just the modes in which bra and ket differ, or n where none does: the terms
-// passed over do not take ket to bra. Most are, and nothing else is asked of them.
-fn next_between(s: &[u8], n: usize, from: usize, bra: u64, ket: u64) -> usize
-    requires { Holds s.now n × (from ≤ n) }
-    ensures { (result ≡ from + passed bra ket (drop from (terms_in s.now n))) × (result ≤ n) × (element bra ket (drop result (terms_in s.now n)) ≡ element bra ket (drop from (terms_in s.now n))) }
+// The first term from `from` on that changes just the modes in which bra and ket differ, or their number where none does:
+// the terms passed over do not take ket to bra. Most are, and nothing else is asked of them.
+fn next_between(terms: &Terms, from: usize, bra: u64, ket: u64) -> usize
+    requires { from ≤ length terms.now }
+    ensures { (result ≡ from + passed bra ket (drop from terms.now)) × (result ≤ length terms.now) × (element bra ket (drop result terms.now) ≡ element bra ket (drop from terms.now)) }
 {
+    let n = terms.len();
     for i in from..n {
-        let t = record::read_term(s, n, i);
+        let t = terms.get(i);
         if t.cre ^ t.ann == bra ^ ket {
             return i;
         }
@@ -43,18 +44,19 @@ fn next_between(s: &[u8], n: usize, from: usize, bra: u64, ket: u64) -> usize
     n
 }
 
-// What n terms add. The sum stays within their weight, so that it never wraps.
+// What the terms add. The sum stays within their weight, so that it never wraps.
 // A `while`, since it jumps to the next term that can add: with a `for` that asks every term, a matrix took 1.3 to 1.5 times as long.
-fn sum_parts(s: &[u8], n: usize, bra: u64, ket: u64) -> i64
-    requires { Sound s.now n }
-    ensures { result ≡ element bra ket (terms_in s.now n) }
+fn sum_parts(terms: &Terms, bra: u64, ket: u64) -> i64
+    requires { weight terms.now ≤ 2 ^ 60 }
+    ensures { result ≡ element bra ket terms.now }
 {
+    let n = terms.len();
     let mut sum: i64 = 0;
-    let mut i = next_between(s, n, 0, bra, ket);
+    let mut i = next_between(terms, 0, bra, ket);
     while i < n {
-        let t = record::read_term(s, n, i);
+        let t = terms.get(i);
         sum = integers::sum(sum, part_of(t, bra, ket));
-        i = next_between(s, n, i + 1, bra, ket);
+        i = next_between(terms, i + 1, bra, ket);
     }
     sum
 }
@@ -65,7 +67,8 @@ pub fn element(a: &[u8], bra: u64, ket: u64) -> Result<i64, Refusal>
 {
     let c = record::check(a, 1)?;
     modes::words_refusal(ModeSpace { count: c.modes }, bra, ket)?;
-    Ok(sum_parts(a, c.terms, bra, ket))
+    let terms = Terms::of(a, c.terms);
+    Ok(sum_parts(&terms, bra, ket))
 }
 
 // The most words that a basis may have.
@@ -127,26 +130,26 @@ fn basis_refusal(space: ModeSpace, basis: &[u64]) -> Result<(), Refusal>
     repeat_refusal(basis)
 }
 
-// The row of one bra over n terms.
-fn row_of(a: &[u8], n: usize, basis: &[u64], bra: u64) -> Row
-    requires { Sound a.now n × (length basis.now ≤ 8) }
-    ensures { result ≡ row_of (terms_in a.now n) basis.now bra }
+// The row of one bra over the terms.
+fn row_of(terms: &Terms, basis: &[u64], bra: u64) -> Row
+    requires { (weight terms.now ≤ 2 ^ 60) × (length basis.now ≤ 8) }
+    ensures { result ≡ row_of terms.now basis.now bra }
 {
     let mut entries = [0i64; 8];
     for (j, ket) in basis.iter().enumerate() {
-        entries[j] = sum_parts(a, n, bra, *ket);
+        entries[j] = sum_parts(terms, bra, *ket);
     }
     Row { entries }
 }
 
 // The rows of all basis words.
-fn project(a: &[u8], n: usize, basis: &[u64]) -> [Row; 8]
-    requires { Sound a.now n × (length basis.now ≤ 8) }
-    ensures { result ≡ matrix_of (terms_in a.now n) basis.now }
+fn project(terms: &Terms, basis: &[u64]) -> [Row; 8]
+    requires { (weight terms.now ≤ 2 ^ 60) × (length basis.now ≤ 8) }
+    ensures { result ≡ matrix_of terms.now basis.now }
 {
     let mut rows = [Row { entries: [0i64; 8] }; 8];
     for (i, bra) in basis.iter().enumerate() {
-        rows[i] = row_of(a, n, basis, *bra);
+        rows[i] = row_of(terms, basis, *bra);
     }
     rows
 }
@@ -158,5 +161,6 @@ pub fn mat_ortho_projected(a: &[u8], basis: &[u64]) -> Result<[Row; 8], Refusal>
 {
     let c = record::check(a, 1)?;
     basis_refusal(ModeSpace { count: c.modes }, basis)?;
-    Ok(project(a, c.terms, basis))
+    let terms = Terms::of(a, c.terms);
+    Ok(project(&terms, basis))
 }

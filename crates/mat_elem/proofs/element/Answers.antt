@@ -16,10 +16,13 @@ returns-in_err-words_refusal c =
     handed_on _ _ c.from_residual-in_err-words_refusal.ensures.0 c.from_residual-in_err-words_refusal.ensures.1
     ∙ words_refused _ _ _ _ c.in_ok-c.ensures _ c.in_err-words_refusal.ensures
 
+pub of-terms-requires : goal.of-terms-requires
+of-terms-requires c = (terms_held _ c.args.bra c.args.ket _ c.in_ok-c.ensures).size
+
 pub sum_parts-requires : goal.sum_parts-requires
-sum_parts-requires c = terms_held _ c.args.bra c.args.ket _ c.in_ok-c.ensures
+sum_parts-requires c = rw c.of-terms.ensures (terms_held _ c.args.bra c.args.ket _ c.in_ok-c.ensures).light
 
 pub returns : goal.returns
 returns c =
     let small : SFits w64 c.sum_parts.result = record { sfits = c.sum_parts.type_inv } in
-    element_found _ _ _ _ c.in_ok-c.ensures c.in_ok-words_refusal.ensures _ (to_z-of_z small ∙ c.sum_parts.ensures)
+    element_found _ _ _ _ c.in_ok-c.ensures c.in_ok-words_refusal.ensures _ (to_z-of_z small ∙ (rw c.of-terms.ensures at c.sum_parts.ensures))

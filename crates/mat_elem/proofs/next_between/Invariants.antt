@@ -1,6 +1,5 @@
-use Rattle.record.specs.Layout.{terms_in}
 use Rattle.mat_elem.proofs.Summing.{Passing}
 use Rattle.mat_elem.proofs.next_between.Given as goal
 
 abbrev pub invariant-loop-i : goal.invariant-loop-i
-invariant-loop-i l = Passing l.bra l.ket (terms_in l.s l.n) l.from l.i
+invariant-loop-i l = Passing l.bra l.ket l.terms l.from l.i
