@@ -4,13 +4,12 @@
 ghost use Rattle.std.specs.Prelude.{◌≡◌, ◌+◌, ◌^◌, ◌≤◌};
 ghost use Rattle.std.specs.Int.Count.{ones};
 ghost use Rattle.record.specs.Operands.{read_as};
-ghost use Rattle.record.specs.Layout.{terms_in};
 ghost use Rattle.pairs.specs.Products.{branches_of, branches_with, branches_of_all};
-ghost use Rattle.record.specs.Reading.{Holds};
 ghost use Rattle.branches.specs.Ceiling.{most, up_to};
 ghost use Rattle.branches.specs.Branches.{branches_told};
 
 use modes::{Refusal, Term};
+use record::Terms;
 
 // The most branches whose rows take no more than 2^63 bytes. A count goes no further than one above it, so that no sum wraps.
 const MOST: u64 = 384_307_168_202_282_325;
@@ -54,15 +53,15 @@ fn of_pair(t: Term, u: Term) -> u64
     rows_of(helper.bifurcations())
 }
 
-// The branches of the term t with each of the n terms of b.
+// The branches of the term t with each term of b.
 #[tactic(auto, using(crate::proofs::Ceiling::up_small))]
-fn of_term(t: Term, b: &[u8], n: usize) -> u64
-    requires { Holds b.now n }
-    ensures { result ≡ up_to (branches_with t (terms_in b.now n)) }
+fn of_term(t: Term, b: &Terms) -> u64
+    ensures { result ≡ up_to (branches_with t b.now) }
 {
     let mut so_far = 0;
+    let n = b.len();
     for j in 0..n {
-        let u = record::read_term(b, n, j);
+        let u = b.get(j);
         so_far = more(so_far, of_pair(t, u));
     }
     so_far
@@ -70,14 +69,14 @@ fn of_term(t: Term, b: &[u8], n: usize) -> u64
 
 // The branches of all pairs of a term of a and a term of b.
 #[tactic(auto, using(crate::proofs::Ceiling::up_small))]
-fn of_all(a: &[u8], na: usize, b: &[u8], nb: usize) -> u64
-    requires { Holds a.now na × Holds b.now nb }
-    ensures { result ≡ up_to (branches_of_all (terms_in a.now na) (terms_in b.now nb)) }
+fn of_all(a: &Terms, b: &Terms) -> u64
+    ensures { result ≡ up_to (branches_of_all a.now b.now) }
 {
     let mut so_far = 0;
-    for i in 0..na {
-        let t = record::read_term(a, na, i);
-        so_far = more(so_far, of_term(t, b, nb));
+    let n = a.len();
+    for i in 0..n {
+        let t = a.get(i);
+        so_far = more(so_far, of_term(t, b));
     }
     so_far
 }
@@ -88,8 +87,10 @@ pub fn branches(a: &[u8], b: &[u8]) -> Result<BranchCounts, Refusal>
     ensures { result ≡ branches_told (read_as 1 a.now) (read_as 2 b.now) }
 {
     let p = results::open_operands(a, b)?;
-    let forward = of_all(a, p.left, b, p.right);
-    let backward = of_all(b, p.right, a, p.left);
+    let left = Terms::of(a, p.left);
+    let right = Terms::of(b, p.right);
+    let forward = of_all(&left, &right);
+    let backward = of_all(&right, &left);
     if MOST < forward + backward {
         return Err(Refusal::ROWS_DO_NOT_FIT);
     }

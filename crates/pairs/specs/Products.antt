@@ -1,11 +1,17 @@
 -- The rows of all pairs of terms of two operators, and their number, for the product and for the commutator and anticommutator.
-use Rattle.std.specs.Prelude.{Bool, false, cond, List, [], ◌++◌, ℕ, ◌+◌, ◌^◌, ℤ, ◌*ℤ◌}
+use Rattle.std.specs.Prelude.{Bool, false, Option, Some, None, cond, List, [], ◌++◌, ℕ, ◌+◌, ◌^◌, ℤ, ◌*ℤ◌}
 use Rattle.modes.specs.Counts.{count}
 use Rattle.modes.specs.Sums.{sum_of, amount_of, list_of}
+use Rattle.modes.specs.declared.Sign.{Sign}
 use Rattle.modes.specs.declared.Term.{Term}
 use Rattle.products.specs.PhaseRule.{went, term}
 use Rattle.products.specs.Operators.{signed, adds}
 use Rattle.products.specs.Product.{not_empty, branching, rows_times}
+
+-- is the sign of the other order minus? Where there is none, that order does not count, whatever this says
+abbrev pub minus_of : Option Sign → Bool
+minus_of None = false
+minus_of (Some s) = s.0
 
 -- one pair of terms: t u and, where both orders count, u t with its sign
 unfoldable pub pair_rows : Bool → Bool → Term → Term → List Term

@@ -1,18 +1,17 @@
 // The rows of all pairs of terms of two records, gathered at the front of lent work.
 #![tactic(auto)]
 
-ghost use Rattle.std.specs.Prelude.{◌≡◌, true, ◌++◌, ◌+◌, ◌*◌, ◌≤◌, ◌<◌, ◌^◌, nat_abs, length};
+ghost use Rattle.std.specs.Prelude.{◌≡◌, true, is_some, ◌++◌, ◌+◌, ◌*◌, ◌≤◌, ◌<◌, ◌^◌, nat_abs, length};
 ghost use Rattle.lent.specs.Rows.{Fit};
 ghost use Rattle.products.specs.Product.{rows_times};
 ghost use Rattle.products.specs.Fitting.{rows_of};
 ghost use Rattle.record.specs.Terms.{weight};
-ghost use Rattle.record.specs.Layout.{terms_in};
-ghost use Rattle.record.specs.Reading.{Holds};
-ghost use Rattle.pairs.specs.Products.{pair_rows, rows_with, all_rows};
+ghost use Rattle.pairs.specs.Products.{minus_of, pair_rows, rows_with, all_rows};
 ghost use Rattle.pairs.specs.Filling.{Room, Grown, Adds, Appended, Opposite, Settled};
 
 use modes::{Sign, Term};
 use products::ProductHelper;
+use record::Terms;
 
 // How many bytes at the front of the work are used for rows, and how many all rows would take, one a branch, with none
 // cancelled. Once these are more than the work has, the rows are too many.
@@ -113,36 +112,31 @@ fn append_both(work: &mut [u8], s: Fill, t: Term, u: Term, coeff: i64, swapped: 
     settle(work, two, row)
 }
 
-// The rows of one pair of terms, in one order or in both.
-fn append_pair(both: bool, sign: Sign, work: &mut [u8], s: Fill, t: Term, u: Term) -> Fill
+// The rows of one pair of terms, t u, and of the other order, u t, where it has a sign.
+fn append_pair(other: Option<Sign>, work: &mut [u8], s: Fill, t: Term, u: Term) -> Fill
     requires { Room work.old s × (nat_abs t.coeff * nat_abs u.coeff < 2 ^ 63) }
-    ensures { Adds (pair_rows both sign.0 t u) work.old s work.new result }
+    ensures { Adds (pair_rows (is_some other) (minus_of other) t u) work.old s work.new result }
 {
     let coeff = integers::product(t.coeff, u.coeff);
-    if both {
-        let swapped = products::signed_coeff(sign, coeff);
-        return append_both(work, s, t, u, coeff, swapped);
+    match other {
+        None => append(work, s, helper_of(t, u), coeff),
+        Some(sign) => {
+            let swapped = products::signed_coeff(sign, coeff);
+            append_both(work, s, t, u, coeff, swapped)
+        }
     }
-    append(work, s, helper_of(t, u), coeff)
 }
 
-// The rows of the term t with each of the n terms of b. It ends early where they are too many.
-fn append_with(
-    both: bool,
-    sign: Sign,
-    work: &mut [u8],
-    s: Fill,
-    t: Term,
-    b: &[u8],
-    n: usize,
-) -> Fill
-    requires { Room work.old s × Holds b.now n × (nat_abs t.coeff * weight (terms_in b.now n) ≤ 2 ^ 60) }
-    ensures { Adds (rows_with both sign.0 t (terms_in b.now n)) work.old s work.new result }
+// The rows of the term t with each term of b. It ends early where they are too many.
+fn append_with(other: Option<Sign>, work: &mut [u8], s: Fill, t: Term, b: &Terms) -> Fill
+    requires { Room work.old s × (nat_abs t.coeff * weight b.now ≤ 2 ^ 60) }
+    ensures { Adds (rows_with (is_some other) (minus_of other) t b.now) work.old s work.new result }
 {
     let mut at = s;
+    let n = b.len();
     for j in 0..n {
-        let u = record::read_term(b, n, j);
-        at = append_pair(both, sign, work, at, t, u);
+        let u = b.get(j);
+        at = append_pair(other, work, at, t, u);
         if work.len() < at.held {
             return at;
         }
@@ -151,22 +145,15 @@ fn append_with(
 }
 
 // The rows of all pairs of terms. It ends early where they are too many.
-pub fn append_all(
-    both: bool,
-    sign: Sign,
-    work: &mut [u8],
-    a: &[u8],
-    na: usize,
-    b: &[u8],
-    nb: usize,
-) -> Fill
-    requires { Holds a.now na × Holds b.now nb × (weight (terms_in a.now na) * weight (terms_in b.now nb) ≤ 2 ^ 60) }
-    ensures { Grown (all_rows both sign.0 (terms_in a.now na) (terms_in b.now nb)) work.new result }
+pub fn append_all(other: Option<Sign>, work: &mut [u8], a: &Terms, b: &Terms) -> Fill
+    requires { weight a.now * weight b.now ≤ 2 ^ 60 }
+    ensures { Grown (all_rows (is_some other) (minus_of other) a.now b.now) work.new result }
 {
     let mut at = Fill { used: 0, held: 0 };
-    for i in 0..na {
-        let t = record::read_term(a, na, i);
-        at = append_with(both, sign, work, at, t, b, nb);
+    let n = a.len();
+    for i in 0..n {
+        let t = a.get(i);
+        at = append_with(other, work, at, t, b);
         if work.len() < at.held {
             return at;
         }

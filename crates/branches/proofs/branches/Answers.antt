@@ -8,16 +8,18 @@ pub returns-in_err-p : goal.returns-in_err-p
 returns-in_err-p c =
     handed_on _ _ c.from_residual.ensures.0 c.from_residual.ensures.1 ∙ pair_refused _ _ _ c.in_err-p.ensures
 
-pub of_all-forward-requires : goal.of_all-forward-requires
-of_all-forward-requires c = (first_there _ _ _ c.in_ok-p.ensures, second_there _ _ _ c.in_ok-p.ensures)
+pub of-left-requires : goal.of-left-requires
+of-left-requires c = first_there _ _ _ c.in_ok-p.ensures
 
-pub of_all-backward-requires : goal.of_all-backward-requires
-of_all-backward-requires c = (second_there _ _ _ c.in_ok-p.ensures, first_there _ _ _ c.in_ok-p.ensures)
+pub of-right-requires : goal.of-right-requires
+of-right-requires c = second_there _ _ _ c.in_ok-p.ensures
 
 pub returns-then-forward-backward-gt-MOST : goal.returns-then-forward-backward-gt-MOST
 returns-then-forward-backward-gt-MOST c =
-    too_many _ _ _ c.in_ok-p.ensures _ _ c.of_all-forward.ensures c.of_all-backward.ensures c.if-forward-backward-gt-MOST.true
+    too_many _ _ _ c.in_ok-p.ensures _ _ (rw (c.of-left.ensures, c.of-right.ensures) at c.of_all-forward.ensures)
+    (rw (c.of-left.ensures, c.of-right.ensures) at c.of_all-backward.ensures) c.if-forward-backward-gt-MOST.true
 
 pub returns : goal.returns
 returns c =
-    told _ _ _ c.in_ok-p.ensures _ _ c.of_all-forward.ensures c.of_all-backward.ensures c.if-forward-backward-gt-MOST.false
+    told _ _ _ c.in_ok-p.ensures _ _ (rw (c.of-left.ensures, c.of-right.ensures) at c.of_all-forward.ensures)
+    (rw (c.of-left.ensures, c.of-right.ensures) at c.of_all-backward.ensures) c.if-forward-backward-gt-MOST.false

@@ -1,11 +1,10 @@
 use lib.ListN.{drop}
-use Rattle.record.specs.Layout.{terms_in}
-use Rattle.pairs.specs.Products.{all_rows}
+use Rattle.std.specs.Prelude.{is_some}
+use Rattle.pairs.specs.Products.{minus_of, all_rows}
 use Rattle.pairs.proofs.Pairing.{Progress}
 use Rattle.pairs.proofs.append_all.Given as goal
 
 abbrev pub invariant-loop-i : goal.invariant-loop-i
 invariant-loop-i l =
-    Progress (all_rows l.both l.sign.0 (terms_in l.a l.na) (terms_in l.b l.nb))
-    (all_rows l.both l.sign.0 (drop l.i (terms_in l.a l.na)) (terms_in l.b l.nb)) l.initial.work
-    (record { used = 0; held = 0 }) l.work l.at
+    Progress (all_rows (is_some l.other) (minus_of l.other) l.a l.b) (all_rows (is_some l.other) (minus_of l.other) (drop l.i l.a) l.b)
+    l.initial.work (record { used = 0; held = 0 }) l.work l.at

@@ -5,16 +5,10 @@ use Rattle.pairs.proofs.Pairing.{one_order, both_orders}
 use borrow.Author.Rules.{rules}
 use Rattle.pairs.proofs.append_pair.Goals as goal
 
-pub returns-then-both : goal.returns-then-both
-returns-then-both c =
-    rw c.if-both.true (both_orders c.args.sign.0 c.args.t c.args.u (search rules)
-    (search rules) c.requires.1 _ c.product-coeff.ensures _ c.signed_coeff-swapped.ensures
-    c.append_both.ensures)
-
-pub returns : goal.returns
-returns c =
+pub returns-in-None : goal.returns-in-None
+returns-in-None c =
     let one = c.append in
-    rw c.if-both.false (one_order c.args.sign.0 c.args.t c.args.u (search rules)
+    rw c.in-None.is (one_order _ c.args.t c.args.u (search rules)
     (search rules) c.requires.1 _ c.product-coeff.ensures
     (product_adds (record {
       ready = c.requires.0;
@@ -22,3 +16,9 @@ returns c =
       is = appended_as c.args.t c.args.u c.product-coeff.result _
           c.helper_of.ensures (record { sfits = c.product-coeff.type_inv }) one.ensures;
     })))
+
+pub returns-in-Some : goal.returns-in-Some
+returns-in-Some c =
+    rw c.in-Some.is (both_orders _ c.args.t c.args.u (search rules)
+    (search rules) c.requires.1 _ c.product-coeff.ensures _ c.signed_coeff-swapped.ensures
+    c.append_both.ensures)
