@@ -20,7 +20,6 @@ use Rattle.record.specs.Terms.{before, Ascending}
 use Rattle.record.specs.Layout.{terms_in, column_places}
 use Rattle.record.specs.Canonical.{Nonzero, Canonical}
 use Rattle.record.specs.Coefficients.{coeff_in}
-use Rattle.record.proofs.Reading.{length_terms}
 use Rattle.record.proofs.Columns.{at_columns}
 use Rattle.record.proofs.Inverse.{canonical_fit}
 use Rattle.normal.proofs.Normal.{normal_is, normal_same}
@@ -82,6 +81,3 @@ module _ (m n : ℕ) (ts us : List Term) (size : length ts ≡ n) (size2 : lengt
   sorted_adjoint =
       normal_is us (map adjoint_term ts) ascends (every_sorted Nonzero (every_map adjoint_term ts still_nonzero k.nonzero))
       (λ c a. sum_kept count size2 s (coeff_in c a))
-
-pub few_terms : (m n : ℕ) (l : List ℕ) → Canonical m (terms_in l n) → n ≤ 2048
-few_terms m n l k = omega (arith, k.few, length_terms l n)

@@ -15,6 +15,7 @@ ghost use Rattle.adjoint.specs.Adjoint.{Negatable, adjoint_term, adjoint_terms, 
 ghost use Rattle.adjoint.specs.Hermitian.{Among, AdjointsAmong, Tells, hermitian_of};
 
 use modes::{Refusal, Sign, Term, Written};
+use record::Terms;
 
 // The number of pairs of the word's modes.
 fn pairs_in(word: u64) -> u32
@@ -42,23 +43,25 @@ fn adjoint_term(t: Term) -> Term
 }
 
 // The adjoint terms to the output, in the record's own order.
-fn put_adjoint_terms(a: &[u8], n: usize, out: &mut [u8])
-    requires { Holds a.now n × Holds out.old n × Every Negatable (terms_in a.now n) }
-    ensures { terms_in out.new n ≡ map adjoint_term (terms_in a.now n) }
+fn put_adjoint_terms(terms: &Terms, out: &mut [u8])
+    requires { Holds out.old (length terms.now) × Every Negatable terms.now }
+    ensures { terms_in out.new (length terms.now) ≡ map adjoint_term terms.now }
 {
+    let n = terms.len();
     for i in 0..n {
-        let t = record::read_term(a, n, i);
+        let t = terms.get(i);
         let u = adjoint_term(t);
         record::put_term(out, n, i, u);
     }
 }
 
 // The adjoint's record, its terms sorted where they stand.
-fn write_adjoint(a: &[u8], m: u64, n: usize, out: &mut [u8]) -> Written
-    requires { Holds a.now n × Holds out.old n × Canonical m (terms_in a.now n) }
-    ensures { Gives (filled_output (length out.old) 0 (encode m (adjoint_terms (terms_in a.now n)))) (Ok result) out.new }
+fn write_adjoint(terms: &Terms, m: u64, out: &mut [u8]) -> Written
+    requires { Holds out.old (length terms.now) × Canonical m terms.now }
+    ensures { Gives (filled_output (length out.old) 0 (encode m (adjoint_terms terms.now))) (Ok result) out.new }
 {
-    put_adjoint_terms(a, n, out);
+    let n = terms.len();
+    put_adjoint_terms(terms, out);
     quicksort::sort(out, record::column_places(n), n);
     record::finish(out, m, n, 0)
 }
@@ -74,31 +77,33 @@ pub fn adjoint(a: &[u8], out: &mut [u8]) -> Result<Written, Refusal>
     if out.len() < record::length_of(c.terms) {
         return lent::refuse(out, Refusal::OUTPUT_TOO_SHORT);
     }
-    Ok(write_adjoint(a, c.modes, c.terms, out))
+    let terms = Terms::of(a, c.terms);
+    Ok(write_adjoint(&terms, c.modes, out))
 }
 
-// Is t one of the n terms? It can only stand after those before it.
-fn has_term(s: &[u8], n: usize, t: Term) -> bool
-    requires { Holds s.now n × Ascending (terms_in s.now n) }
-    ensures { Tells result (Among t (terms_in s.now n)) }
+// Is t one of the terms? It can only stand after those before it.
+fn has_term(terms: &Terms, t: Term) -> bool
+    requires { Ascending terms.now }
+    ensures { Tells result (Among t terms.now) }
 {
-    let i = record::count_before(s, n, t);
-    if n <= i {
+    let i = terms.count_before(t);
+    if terms.len() <= i {
         return false;
     }
-    let u = record::read_term(s, n, i);
+    let u = terms.get(i);
     t == u
 }
 
-// Is the adjoint of every term one of the n terms?
-fn has_adjoints(s: &[u8], n: usize) -> bool
-    requires { Holds s.now n × Ascending (terms_in s.now n) × Every Negatable (terms_in s.now n) }
-    ensures { Tells result (AdjointsAmong (terms_in s.now n) (terms_in s.now n)) }
+// Is the adjoint of every term one of the terms?
+fn has_adjoints(terms: &Terms) -> bool
+    requires { Ascending terms.now × Every Negatable terms.now }
+    ensures { Tells result (AdjointsAmong terms.now terms.now) }
 {
+    let n = terms.len();
     for i in 0..n {
-        let t = record::read_term(s, n, i);
+        let t = terms.get(i);
         let u = adjoint_term(t);
-        if !has_term(s, n, u) {
+        if !has_term(terms, u) {
             return false;
         }
     }
@@ -110,5 +115,6 @@ pub fn is_hermitian(a: &[u8]) -> Result<bool, Refusal>
     ensures { result ≡ hermitian_of a.now }
 {
     let c = record::check(a, 1)?;
-    Ok(has_adjoints(a, c.terms))
+    let terms = Terms::of(a, c.terms);
+    Ok(has_adjoints(&terms))
 }

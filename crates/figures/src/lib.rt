@@ -2,12 +2,11 @@
 #![tactic(auto)]
 
 ghost use Rattle.std.specs.Prelude.{◌≡◌, ◌≤◌, max};
-ghost use Rattle.record.specs.Layout.{terms_in};
-ghost use Rattle.record.specs.Reading.{Holds};
 ghost use Rattle.record.specs.Operands.{read_as};
 ghost use Rattle.figures.specs.Figures.{rank_of, conserves, figures_in, figures_of, conserves_of, max_n_body_of, active_modes_of};
 
 use modes::{Refusal, Term};
+use record::Terms;
 
 // The larger of two counts of modes, told by a bit of their difference: the compiler counts the modes of two words at once where
 // they are subtracted, and one after the other where they are compared.
@@ -47,16 +46,16 @@ struct Figures {
     modes: u64,
 }
 
-// The figures of n terms, in one walk.
-fn survey_terms(s: &[u8], n: usize) -> Figures
-    requires { Holds s.now n }
-    ensures { result ≡ figures_in (terms_in s.now n) }
+// The figures of terms, in one walk.
+fn survey_terms(terms: &Terms) -> Figures
+    ensures { result ≡ figures_in terms.now }
 {
+    let n = terms.len();
     let mut conserving = true;
     let mut largest = 0;
     let mut modes = 0;
     for i in 0..n {
-        let t = record::read_term(s, n, i);
+        let t = terms.get(i);
         conserving &= is_conserving(t);
         largest = larger(largest, rank(t));
         modes |= t.cre | t.ann;
@@ -73,7 +72,8 @@ fn survey(s: &[u8]) -> Result<Figures, Refusal>
     ensures { result ≡ figures_of (read_as 1 s.now) }
 {
     let c = record::check(s, 1)?;
-    Ok(survey_terms(s, c.terms))
+    let terms = Terms::of(s, c.terms);
+    Ok(survey_terms(&terms))
 }
 
 // Has every term as many creations as annihilations?

@@ -1,5 +1,5 @@
 -- What a walk that ended shows of the record.
-use Rattle.std.proofs.Common.{◌≡◌, ℕ, ◌^◌, ◌<◌, ◌≤◌, Bool, true, false, ltb, List, [], drop, refl, sym, ◌∙◌, ⊎_elim, true≢false, arith, ltb-true, lt-ltb, le-leb, leb-true}
+use Rattle.std.proofs.Common.{◌≡◌, ℕ, ◌^◌, ◌<◌, ◌≤◌, Bool, true, false, ltb, List, [], length, drop, refl, sym, ◌∙◌, ⊎_elim, true≢false, arith, ltb-true, lt-ltb, le-leb, leb-true}
 use Rattle.modes.specs.declared.Term.{Term}
 use Rattle.modes.specs.declared.Refusal.{Refusal}
 use Rattle.std.specs.Prelude.{Result, Ok, Err}
@@ -22,13 +22,14 @@ none_left_refused : (m i : ℕ) (up : Term → Bool) (ts : List Term) → ts ≡
 unfolding terms_refusal
 none_left_refused m i up ts e = rw e
 
--- a walk over n terms that is refused where it ended did not go to the end, and one that is not did
-module _ (m n : ℕ) (ts : List Term) (w : Reached) where
-  pub ended_early : (r : Refusal) → Judges m ts n w (Err r) → Refuses m ts w.seen w.place (Err r)
-  ended_early r j = ⊎_elim j.early (λ h. let never = j.whole h in cc) (lt_or_ge w.place n)
+-- a walk over terms that is refused where it ended did not go to the end, and one that is not did
+module _ (m : ℕ) (ts : List Term) (w : Reached) where
+  pub ended_early : (r : Refusal) → Judges m ts w (Err r) → Refuses m ts w.seen w.place (Err r)
+  ended_early r j = ⊎_elim j.early (λ h. let never = j.whole h in cc) (lt_or_ge w.place (length ts))
 
-  pub ended_whole : ((r : Verdict) → w.place < n → Refuses m ts w.seen w.place r → r ≡ none → ⊥) → (x : Unit {0}) → Judges m ts n w (Ok x) → n ≤ w.place
-  ended_whole some x j = ⊎_elim (λ h. absurd (some (Ok x) h (j.early h) refl)) (λ h. h) (lt_or_ge w.place n)
+  pub ended_whole : ((r : Verdict) → w.place < length ts → Refuses m ts w.seen w.place r → r ≡ none → ⊥) → (x : Unit {0}) → Judges m ts w (Ok x)
+      → length ts ≤ w.place
+  ended_whole some x j = ⊎_elim (λ h. absurd (some (Ok x) h (j.early h) refl)) (λ h. h) (lt_or_ge w.place (length ts))
 
 -- of the bytes l
 module _ (l : List ℕ) (m n : ℕ) (yes : laid_out l ≡ true) (em : m ≡ modes_of l) (en : n ≡ count_of l) (s : Seen) (i : ℕ) (g : Seeing m (terms_in l n) s i) where

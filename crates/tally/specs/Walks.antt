@@ -55,14 +55,14 @@ pub record Refuses (m : ℕ) (ts : List Term) (s : Seen) (i : ℕ) (r : Verdict)
   pub at : At ts i term
   pub is : r ≡ term_refusal 1 m i (comes_after s term) term
 
--- a walk over n terms: what was seen as far as it went, the columns, and that the term at which it ended is refused
-pub record Walked (m : ℕ) (ts : List Term) (n : ℕ) (w : Reached) (terms sizes : List ℕ) : Type 0 where
-  pub bound : w.place ≤ n
+-- a walk over terms: what was seen as far as it went, the columns, and that the term at which it ended is refused
+pub record Walked (m : ℕ) (ts : List Term) (w : Reached) (terms sizes : List ℕ) : Type 0 where
+  pub bound : w.place ≤ length ts
   pub seeing : Seeing m ts w.seen w.place
   pub tallying : Tallying ts w.place terms sizes
-  pub ended : w.place < n → (r : Verdict) → Refuses m ts w.seen w.place r → r ≢ none
+  pub ended : w.place < length ts → (r : Verdict) → Refuses m ts w.seen w.place r → r ≢ none
 
 -- r is the judgement of the term at which it ended, and none where that is behind the last
-pub record Judges (m : ℕ) (ts : List Term) (n : ℕ) (w : Reached) (r : Verdict) : Type 0 where
-  pub early : w.place < n → Refuses m ts w.seen w.place r
-  pub whole : n ≤ w.place → r ≡ none
+pub record Judges (m : ℕ) (ts : List Term) (w : Reached) (r : Verdict) : Type 0 where
+  pub early : w.place < length ts → Refuses m ts w.seen w.place r
+  pub whole : length ts ≤ w.place → r ≡ none

@@ -3,13 +3,12 @@
 #![tactic(auto)]
 
 ghost use Rattle.std.specs.Prelude.{◌≡◌, ◌+◌, ◌^◌, ◌<◌, ◌≤◌, true};
-ghost use Rattle.record.specs.Layout.{laid_out, modes_of, count_of, terms_in};
-ghost use Rattle.record.specs.Reading.{Holds};
+ghost use Rattle.record.specs.Layout.{laid_out, modes_of, count_of};
 ghost use Rattle.tally.specs.Tallies.{none_yet, Tallies};
 ghost use Rattle.tally.specs.Walks.{comes_after, takes_next, seen_with, is_light, Walked, Judges};
 
 use modes::{ModeSpace, Reason, Refusal, Term};
-use record::Checked;
+use record::{Checked, Terms};
 
 // 2^61. A sum in 64 bits that was below it all the way did not wrap, for no step is above 2^63.
 const TOO_HIGH: u64 = 2_305_843_009_213_693_952;
@@ -78,11 +77,12 @@ fn all_modes(m: u64) -> u64
     (1u64 << m) - 1
 }
 
-// The walk over n terms on m modes, as far as each may stand where it stands.
-fn walk(s: &[u8], m: u64, n: usize, terms: &mut [u64; 65], weights: &mut [u64; 65]) -> Reached
-    requires { Holds s.now n × (m ≤ 64) × (terms.old ≡ none_yet) × (weights.old ≡ none_yet) }
-    ensures { Walked m (terms_in s.now n) n result terms.new weights.new }
+// The walk over terms on m modes, as far as each may stand where it stands.
+fn walk(terms: &Terms, m: u64, counts: &mut [u64; 65], weights: &mut [u64; 65]) -> Reached
+    requires { (m ≤ 64) × (counts.old ≡ none_yet) × (weights.old ≡ none_yet) }
+    ensures { Walked m terms.now result counts.new weights.new }
 {
+    let n = terms.len();
     let top = all_modes(m);
     let mut seen = Seen {
         last: None,
@@ -90,28 +90,27 @@ fn walk(s: &[u8], m: u64, n: usize, terms: &mut [u64; 65], weights: &mut [u64; 6
         bits: 0,
     };
     for i in 0..n {
-        let t = record::read_term(s, n, i);
+        let t = terms.get(i);
         let k = record::size(t);
         if !seen.takes(top, t, k) {
             return Reached { seen, place: i };
         }
         let at = figures::rank(t) as usize;
-        terms[at] += 1;
+        counts[at] += 1;
         weights[at] = std::num::wrapping_add_u64(weights[at], k);
         seen = seen.with(t, k);
     }
     Reached { seen, place: n }
 }
 
-// What refuses the term at which a walk over n terms ended, if it did not go to the end.
-fn judge_end(s: &[u8], m: u64, n: usize, reached: Reached) -> Result<(), Refusal>
-    requires { Holds s.now n }
-    ensures { Judges m (terms_in s.now n) n reached result }
+// What refuses the term at which a walk over terms ended, if it did not go to the end.
+fn judge_end(terms: &Terms, m: u64, reached: Reached) -> Result<(), Refusal>
+    ensures { Judges m terms.now reached result }
 {
-    if n <= reached.place {
+    if terms.len() <= reached.place {
         return Ok(());
     }
-    let t = record::read_term(s, n, reached.place);
+    let t = terms.get(reached.place);
     let up = record::follows(reached.seen.last, t);
     record::term_refusal(ModeSpace { count: m }, 1, reached.place as u64, up, t)
 }
@@ -121,14 +120,15 @@ fn tally_terms(
     s: &[u8],
     m: u64,
     n: usize,
-    terms: &mut [u64; 65],
+    counts: &mut [u64; 65],
     weights: &mut [u64; 65],
 ) -> Result<Checked, Refusal>
-    requires { (laid_out s.now ≡ true) × (m ≡ modes_of s.now) × (n ≡ count_of s.now) × (terms.old ≡ none_yet) × (weights.old ≡ none_yet) }
-    ensures { Tallies s.now result terms.new weights.new }
+    requires { (laid_out s.now ≡ true) × (m ≡ modes_of s.now) × (n ≡ count_of s.now) × (counts.old ≡ none_yet) × (weights.old ≡ none_yet) }
+    ensures { Tallies s.now result counts.new weights.new }
 {
-    let reached = walk(s, m, n, terms, weights);
-    judge_end(s, m, n, reached)?;
+    let terms = Terms::of(s, n);
+    let reached = walk(&terms, m, counts, weights);
+    judge_end(&terms, m, reached)?;
     if !reached.seen.is_light() {
         return Err(Refusal {
             reason: Reason::TooHeavy,

@@ -7,9 +7,7 @@ ghost use Rattle.modes.specs.Answers.{refusal, rows_do_not_fit, product_too_heav
 ghost use Rattle.modes.specs.Refusals.{need, or_else};
 ghost use Rattle.modes.specs.Spaces.{space_of, is_made};
 ghost use Rattle.lent.specs.Outputs.{Gives};
-ghost use Rattle.record.specs.Layout.{terms_in};
 ghost use Rattle.record.specs.Operands.{read_as};
-ghost use Rattle.record.specs.Reading.{Holds};
 ghost use Rattle.multiply.specs.Answers.{Leaves};
 ghost use Rattle.term_lines.specs.Written.{term_text, terms_text};
 ghost use Rattle.text.specs.Import.{early_refusal, import_of};
@@ -18,6 +16,7 @@ ghost use Rattle.text.specs.Gathering.{Readable, Gathered};
 ghost use Rattle.text.specs.Placing.{PlacedText};
 
 use modes::{ModeSpace, Reason, Refusal, Term, Written};
+use record::Terms;
 use scan::Sums;
 
 // Number 1, of a mode count that no caller has looked at.
@@ -109,14 +108,14 @@ fn place_line(out: &mut [u8], at: usize, t: Term) -> Option<usize>
     Some(at + len)
 }
 
-// The lines of n terms of a record to the front, one after the other, and where they end if all fit.
-fn place_lines(a: &[u8], n: usize, out: &mut [u8]) -> Option<usize>
-    requires { Holds a.now n }
-    ensures { PlacedText out.old 0 (terms_text (terms_in a.now n)) out.new result }
+// The lines of terms to the front, one after the other, and where they end if all fit.
+fn place_lines(terms: &Terms, out: &mut [u8]) -> Option<usize>
+    ensures { PlacedText out.old 0 (terms_text terms.now) out.new result }
 {
+    let n = terms.len();
     let mut end = 0;
     for i in 0..n {
-        end = place_line(out, end, record::read_term(a, n, i))?;
+        end = place_line(out, end, terms.get(i))?;
     }
     Some(end)
 }
@@ -129,7 +128,8 @@ pub fn export(a: &[u8], out: &mut [u8]) -> Result<Written, Refusal>
         Ok(c) => c,
         Err(refusal) => return lent::refuse(out, refusal),
     };
-    let Some(len) = place_lines(a, c.terms, out) else {
+    let terms = Terms::of(a, c.terms);
+    let Some(len) = place_lines(&terms, out) else {
         return lent::refuse(out, Refusal::OUTPUT_TOO_SHORT);
     };
     lent::wipe_from(out, len);

@@ -5,6 +5,7 @@ use lib.ListN.{length}
 use Rattle.std.specs.Prelude.{Ok}
 use Rattle.lent.specs.Outputs.{Output, Gives}
 use Rattle.record.proofs.Accepted.{accepted}
+use Rattle.record.proofs.Reading.{length_terms}
 use Rattle.adjoint.proofs.Adjointed.{adjointed_refused, canonical, few, adjointed_short, adjointed_filled}
 use Rattle.adjoint.proofs.adjoint.Goals as goal
 
@@ -24,14 +25,17 @@ returns-then-out-length_of c =
     subst (λ (o : Output). Gives o refuse.result refuse.new.out)
     (adjointed_short (length c.args.out.now) c.args.a.now _ k (omega (arith, c.length_of.ensures))) refuse.ensures
 
+pub of-terms-requires : goal.of-terms-requires
+of-terms-requires c = (accepted 1 _ _ c.in-Ok.ensures).held.size
+
 pub write_adjoint-requires : goal.write_adjoint-requires
 write_adjoint-requires c =
     let k = accepted 1 c.args.a.now _ c.in-Ok.ensures in
-    (k.held.size, omega (arith, c.length_of.ensures), canonical 0 c.args.a.now _ k)
+    rw c.of-terms.ensures (rw (length_terms _ _) (omega (arith, c.length_of.ensures)), canonical 0 c.args.a.now _ k)
 
 pub returns : goal.returns
 returns c =
     let written = c.write_adjoint in
     let k = accepted 1 c.args.a.now _ c.in-Ok.ensures in
     subst (λ (o : Output). Gives o (Ok written.result) written.new.out)
-    (adjointed_filled (length c.args.out.now) c.args.a.now _ k (omega (arith, c.length_of.ensures))) written.ensures
+    (adjointed_filled (length c.args.out.now) c.args.a.now _ k (omega (arith, c.length_of.ensures))) (rw c.of-terms.ensures at written.ensures)

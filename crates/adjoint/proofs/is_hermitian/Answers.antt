@@ -11,13 +11,15 @@ pub returns-in_err-c : goal.returns-in_err-c
 returns-in_err-c c =
     handed_on _ _ c.from_residual.ensures.0 c.from_residual.ensures.1 ∙ hermitian_refused _ _ c.in_err-c.ensures
 
+pub of-terms-requires : goal.of-terms-requires
+of-terms-requires c = (accepted 1 _ _ c.in_ok-c.ensures).held.size
+
 pub has_adjoints-requires : goal.has_adjoints-requires
 has_adjoints-requires c =
     let k = accepted 1 _ _ c.in_ok-c.ensures in
-    let r = readable 1 _ _ k in
-    (r.0, r.1, negatable _ _ (canonical 0 _ _ k))
+    rw c.of-terms.ensures ((readable 1 _ _ k).1, negatable _ _ (canonical 0 _ _ k))
 
 pub returns : goal.returns
 returns c =
     hermitian_found _ _ (accepted 1 _ _ c.in_ok-c.ensures)
-    (λ k. (c.type_inv.a k).fits) _ c.has_adjoints.ensures
+    (λ k. (c.type_inv.a k).fits) _ (rw c.of-terms.ensures at c.has_adjoints.ensures)

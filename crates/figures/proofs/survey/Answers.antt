@@ -8,8 +8,8 @@ use Rattle.figures.proofs.survey.Goals as goal
 pub returns-in_err-c : goal.returns-in_err-c
 returns-in_err-c c = handed_on _ _ c.from_residual.ensures.0 c.from_residual.ensures.1 ∙ survey_refused _ _ c.in_err-c.ensures
 
-pub survey_terms-requires : goal.survey_terms-requires
-survey_terms-requires c = (accepted 1 _ _ c.in_ok-c.ensures).held.size
+pub of-terms-requires : goal.of-terms-requires
+of-terms-requires c = (accepted 1 _ _ c.in_ok-c.ensures).held.size
 
 pub returns : goal.returns
-returns c = survey_accepted _ _ _ (accepted 1 _ _ c.in_ok-c.ensures) c.survey_terms.ensures
+returns c = survey_accepted _ _ _ (accepted 1 _ _ c.in_ok-c.ensures) (rw c.of-terms.ensures at c.survey_terms.ensures)

@@ -1,12 +1,11 @@
 -- `tally::walk` meets its contract. The invariant: what was seen of the terms so far, and that their ranks are counted.
-use Rattle.std.proofs.Common.{refl, arith}
-use Rattle.record.proofs.Reading.{length_terms}
+use Rattle.std.proofs.Common.{refl, sym, arith}
 use Rattle.tally.proofs.Seeing.{seeing_starts, seeing_goes, untaken_refused}
 use Rattle.tally.proofs.Tallying.{tally_starts, tally_goes, number_fits}
 use Rattle.tally.proofs.walk.Goals as goal
 
 pub loop-i-init : goal.loop-i-init
-loop-i-init c = let pre = c.requires in (seeing_starts _ _, rw (pre.2, pre.3) (tally_starts _))
+loop-i-init c = let pre = c.requires in (seeing_starts _ _, rw (pre.1, pre.2) (tally_starts _))
 
 pub returns-then-not-takes : goal.returns-then-not-takes
 returns-then-not-takes c =
@@ -17,19 +16,18 @@ returns-then-not-takes c =
       bound = omega arith;
       seeing = inv.0;
       tallying = inv.1;
-      ended = λ h. untaken_refused _ _ _ _ inv.0 _ c.read_term-t.ensures _ c.size-k.ensures _ full _ told c.if-not-takes.true;
+      ended = λ h. untaken_refused _ _ _ _ inv.0 _ c.get-t.ensures _ c.size-k.ensures _ full _ told c.if-not-takes.true;
     }
 
-pub overflow_add-terms : goal.overflow_add-terms
-overflow_add-terms c =
-    let number = length_terms c.args.s.now c.args.n in
-    let term = c.read_term-t.ensures in
-    record { fits = number_fits _ _ _ _ c.loop-i.invariant.1 _ term _ c.rank-at.ensures _ number c.ranges.n.fits }
+pub overflow_add-counts : goal.overflow_add-counts
+overflow_add-counts c =
+    let term = c.get-t.ensures in
+    record { fits = number_fits _ _ _ _ c.loop-i.invariant.1 _ term _ c.rank-at.ensures _ (sym c.len-n.ensures) c.len-n.type_inv }
 
 pub loop-i-preserved : goal.loop-i-preserved
 loop-i-preserved c =
     let inv = c.loop-i.invariant in
-    let term = c.read_term-t.ensures in
+    let term = c.get-t.ensures in
     let size = c.size-k.ensures in
     let full = c.all_modes-top.ensures in
     let told = c.takes.ensures in

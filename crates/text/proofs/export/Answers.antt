@@ -9,15 +9,15 @@ pub returns-in-Err : goal.returns-in-Err
 returns-in-Err c =
     gives_as (export_refused (length c.args.out.now) c.args.a.now _ c.in-Err.ensures) c.refuse.ensures
 
-pub place_lines-requires : goal.place_lines-requires
-place_lines-requires c = (accepted 1 c.args.a.now _ c.in-Ok.ensures).held.size
+pub of-terms-requires : goal.of-terms-requires
+of-terms-requires c = (accepted 1 c.args.a.now _ c.in-Ok.ensures).held.size
 
 pub returns-in_default : goal.returns-in_default
 returns-in_default c =
-    gives_as (unplaced_refused c.args.out.now c.args.a.now _ c.in-Ok.ensures c.place_lines.new.out c.in_default.ensures)
+    gives_as (unplaced_refused c.args.out.now c.args.a.now _ c.in-Ok.ensures c.place_lines.new.out (rw c.of-terms.ensures at c.in_default.ensures))
     (rw c.place_lines.auto.out at c.refuse-in_default.ensures)
 
 pub returns : goal.returns
 returns c =
-    placed_filled c.args.out.now c.args.a.now _ c.in-Ok.ensures _ _ c.in-Some.ensures c.place_lines.auto.out _
+    placed_filled c.args.out.now c.args.a.now _ c.in-Ok.ensures _ _ (rw c.of-terms.ensures at c.in-Some.ensures) c.place_lines.auto.out _
     c.wipe_from.ensures

@@ -1,6 +1,5 @@
-use Rattle.record.specs.Layout.{terms_in}
 use Rattle.text.proofs.Placing.{Placing}
 use Rattle.text.proofs.place_lines.Given as goal
 
 abbrev pub invariant-loop-i : goal.invariant-loop-i
-invariant-loop-i l = Placing l.initial.out (terms_in l.a l.n) l.out l.end l.i
+invariant-loop-i l = Placing l.initial.out l.terms l.out l.end l.i
