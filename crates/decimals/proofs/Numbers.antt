@@ -1,6 +1,6 @@
 -- Numbers read byte by byte: what a byte adds, and that a ceiling on the way changes nothing below it.
 use mathlib.Core.Path.{◌≡◌, refl, sym, ap, ◌∙◌}
-use mathlib.Core.Bool.{Bool, true, false, cond, not}
+use mathlib.Core.Bool.{Bool, true, false, cond, not, ◌&&◌}
 use mathlib.Core.List.{List, [], ◌∷◌}
 use Prim.Native.Nat.{ℕ, suc, ◌+◌, ◌*◌, ◌-◌, ◌^◌, ◌≤◌, ◌<◌}
 use native.Mathlib.Numerals.{add-one}
@@ -10,8 +10,8 @@ use lib.ListN.{length, get_or, drop, drop_of_length-le}
 use lib.Seq.{drop-cons}
 use borrow.Author.Tests.{ne_eqb}
 use Rattle.decimals.specs.Decimal.{read_on}
-use Rattle.decimals.specs.Numbers.{starts_well}
-use Rattle.decimals.specs.Ceiling.{up_to}
+use Rattle.decimals.specs.Numbers.{is_digit, all_digits, starts_well, is_number}
+use Rattle.decimals.specs.Ceiling.{up_to, number_in}
 use Rattle.std.specs.Prelude.{Some, None}
 
 pub starts_short : (l : List ℕ) → length l < 2 → eqb (length l) 1 ≡ starts_well l
@@ -60,3 +60,24 @@ module _ (l : List ℕ) (v i : ℕ) (g : Reading l v i) where
   pub reading_ends : length l ≤ i → v ≡ up_to (read_on 0 l)
   unfolding read_on
   reading_ends h = sym (g.value ∙ ap (λ (k : List ℕ). up_to (read_on v k)) (drop_of_length-le l h) ∙ omega (arith, g.small))
+
+-- l is a number if the bytes from i on are digits
+abbrev pub Good : List ℕ → ℕ → Type 0
+Good l i = is_number l ≡ all_digits (drop i l)
+
+module _ (l : List ℕ) (i : ℕ) (g : Good l i) where
+  module _ (h : i < length l) where
+    next_good : is_number l ≡ is_digit (get_or l i 0) && all_digits (drop (i + 1) l)
+    unfolding all_digits
+    next_good = g ∙ ap all_digits (drop_next l i h)
+
+    pub good_goes : is_digit (get_or l i 0) ≡ true → Good l (i + 1)
+    good_goes e = next_good ∙ ap (λ (b : Bool). b && all_digits (drop (i + 1) l)) e
+
+    -- a byte that is no digit
+    pub no_number : is_digit (get_or l i 0) ≡ false → None ≡ number_in l
+    no_number e = rw (next_good, e)
+
+  pub all_read : length l ≤ i → {v : ℕ} → v ≡ up_to (read_on 0 l) → Some v ≡ number_in l
+  unfolding all_digits
+  all_read h e = rw (g, drop_of_length-le l h, e)

@@ -2,7 +2,7 @@
 #![tactic(auto)]
 
 ghost use Rattle.std.specs.Prelude.{◌≡◌, ◌&&◌, ◌||◌, ◌+◌, ◌≤◌, ◌<◌, ◌^◌, eqb, ltb, length, drop};
-ghost use Rattle.lines.specs.Grammar.{space, creates, annihilates, is_ladder, is_minus, magnitude_of};
+ghost use Rattle.lines.specs.Grammar.{space, creates, annihilates, is_minus, magnitude_of};
 ghost use Rattle.lines.specs.Reading.{front, rest, ladder_made, ladder_read, coefficient_made, coefficient_read, ladders_read, line_read};
 
 use modes::Sign;
@@ -57,15 +57,14 @@ fn is_kind(b: u8) -> bool
     matches!(b, b'^' | b'_')
 }
 
-// Is the field a ladder?
-#[tactic(auto, using(crate::proofs::Fields::no_bytes), unfolding(crate::specs::Grammar::is_ladder))]
-fn is_ladder(s: &[u8]) -> bool
-    ensures { result ≡ is_ladder s.now }
+// A mode with the byte after it.
+fn with_kind(mode: u64, kind: u8) -> ReadLadder
+    ensures { (result.annihilates ≡ eqb kind annihilates) × (result.mode ≡ mode) }
 {
-    let [digits @ .., kind] = s else {
-        return false;
-    };
-    decimals::is_number(digits) && is_kind(*kind)
+    ReadLadder {
+        annihilates: kind == b'_',
+        mode,
+    }
 }
 
 // The ladder that any bytes make.
@@ -74,25 +73,25 @@ pub fn ladder_of(s: &[u8]) -> ReadLadder
     ensures { result ≡ ladder_made s.now }
 {
     let [digits @ .., kind] = s else {
-        return ReadLadder {
-            annihilates: false,
-            mode: 0,
-        };
+        // no bytes make the mode 0, created
+        return with_kind(0, b'^');
     };
-    ReadLadder {
-        annihilates: *kind == b'_',
-        mode: decimals::value_of(digits),
-    }
+    with_kind(decimals::value_of(digits), *kind)
 }
 
 // Any bytes as a ladder.
+#[tactic(auto, using(crate::proofs::Fields::no_bytes), unfolding(crate::specs::Grammar::is_ladder, crate::specs::Grammar::ladder_of))]
 pub fn read_ladder(s: &[u8]) -> Option<ReadLadder>
     ensures { result ≡ ladder_read s.now }
 {
-    if !is_ladder(s) {
+    let [digits @ .., kind] = s else {
+        return None;
+    };
+    if !is_kind(*kind) {
         return None;
     }
-    Some(ladder_of(s))
+    let mode = decimals::read_number(digits)?;
+    Some(with_kind(mode, *kind))
 }
 
 // Does the field start with a minus?
@@ -110,24 +109,29 @@ fn magnitude_of(s: &[u8]) -> &[u8]
     if is_minus(s) { &s[1..] } else { s }
 }
 
+// A magnitude with the sign of its field.
+fn with_sign(magnitude: u64, s: &[u8]) -> ReadCoefficient
+    ensures { (result.sign.0 ≡ is_minus s.now) × (result.magnitude ≡ magnitude) }
+{
+    ReadCoefficient {
+        sign: Sign(is_minus(s)),
+        magnitude,
+    }
+}
+
 // The coefficient that any bytes make.
 pub fn coefficient_of(s: &[u8]) -> ReadCoefficient
     ensures { result ≡ coefficient_made s.now }
 {
-    ReadCoefficient {
-        sign: Sign(is_minus(s)),
-        magnitude: decimals::value_of(magnitude_of(s)),
-    }
+    with_sign(decimals::value_of(magnitude_of(s)), s)
 }
 
 // Any bytes as a coefficient.
 pub fn read_coefficient(s: &[u8]) -> Option<ReadCoefficient>
     ensures { result ≡ coefficient_read s.now }
 {
-    if !decimals::is_number(magnitude_of(s)) {
-        return None;
-    }
-    Some(coefficient_of(s))
+    let magnitude = decimals::read_number(magnitude_of(s))?;
+    Some(with_sign(magnitude, s))
 }
 
 // One ladder more.
