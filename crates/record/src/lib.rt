@@ -161,29 +161,29 @@ fn read_term(s: &[u8], n: usize, i: usize) -> Term
 #[derive(Drop)]
 pub struct Terms<'a> {
     bytes: &'a [u8],
-    count: usize,
+    terms: usize,
 }
 
 impl<'a> Model for Terms<'a> {
     ghost Value = { List Term };
 
-    ghost view = { λ s. terms_in s.bytes.now s.count };
+    ghost view = { λ s. terms_in s.bytes.now s.terms };
 
-    ghost invariant = { λ s. Holds s.bytes.now s.count };
+    ghost invariant = { λ s. Holds s.bytes.now s.terms };
 }
 
 impl<'a> Terms<'a> {
-    pub fn of(bytes: &'a [u8], count: usize) -> Terms<'a>
-        requires { Holds bytes.now count }
-        ensures { result ≡ terms_in bytes.now count }
+    pub fn of(bytes: &'a [u8], terms: usize) -> Terms<'a>
+        requires { Holds bytes.now terms }
+        ensures { result ≡ terms_in bytes.now terms }
     {
-        Terms { bytes, count }
+        Terms { bytes, terms }
     }
 
     pub fn len(&self) -> usize
         ensures { result ≡ length self.now }
     {
-        self.count
+        self.terms
     }
 
     // the i-th of them
@@ -192,7 +192,7 @@ impl<'a> Terms<'a> {
         requires { i < length self.now }
         ensures { At self.now i result }
     {
-        read_term(self.bytes, self.count, i)
+        read_term(self.bytes, self.terms, i)
     }
 
     // how many of them stand before t, found by halving: std's search is of a slice, and the terms lie in three columns

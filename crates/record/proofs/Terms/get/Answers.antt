@@ -11,7 +11,7 @@ use Rattle.record.proofs.Terms.get.Goals as goal
 pub read_term-requires : goal.read_term-requires
 read_term-requires c =
     let inside = c.self.inside in
-    (c.self.invariant, omega (arith, c.requires, ap length c.self.view_is, length_terms inside.bytes.now inside.count))
+    (c.self.invariant, omega (arith, c.requires, ap length c.self.view_is, length_terms inside.bytes.now inside.terms))
 
 pub returns : goal.returns
 returns c = subst (λ (ts : List Term). At ts c.args.i c.read_term.result) c.self.view_is c.read_term.ensures
