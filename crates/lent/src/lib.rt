@@ -38,7 +38,7 @@ pub fn put_half(s: &mut [u8], at: usize, x: usize)
     requires { at + 4 ≤ length s.old }
     ensures { s.new ≡ put_half s.old at x }
 {
-    copy(s, at, &x.to_le_bytes()[..4]);
+    s[at..at + 4].copy_from_slice(&x.to_le_bytes()[..4]);
 }
 
 // The eight bytes of x to `at`.
@@ -46,7 +46,7 @@ pub fn put_word(s: &mut [u8], at: usize, x: u64)
     requires { at + 8 ≤ length s.old }
     ensures { s.new ≡ put_word s.old at x }
 {
-    copy(s, at, &x.to_le_bytes());
+    s[at..at + 8].copy_from_slice(&x.to_le_bytes());
 }
 
 // The term whose row stands at `at`.
@@ -70,12 +70,15 @@ pub fn put_row(s: &mut [u8], at: usize, t: Term)
     put_word(s, at + 16, integers::bits(t.coeff));
 }
 
-// All of `from` to `at`.
+// All of `from` to `at`. A loop, since `copy_from_slice` of any length calls memmove, and the library needs only memcpy and
+// memset from C.
 pub fn copy(s: &mut [u8], at: usize, from: &[u8])
     requires { at + length from.now ≤ length s.old }
     ensures { s.new ≡ put s.old at from.now }
 {
-    s[at..at + from.len()].copy_from_slice(from);
+    for k in 0..from.len() {
+        s[at + k] = from[k];
+    }
 }
 
 // Every byte to zero.

@@ -1,9 +1,16 @@
 -- `lent::put_word` meets its contract: the bytes of the number stand at their place.
-use mathlib.Core.Path.{◌∙◌, ap}
-use Rattle.lent.specs.Bytes.{put}
-use Rattle.lent.proofs.Numbers.{eight_bytes}
+use Prim.Native.Nat.{◌+◌, ◌≤◌}
+use mathlib.Core.Path.{◌≡◌, ◌∙◌}
+use native.Mathlib.Omega.{arith}
+use borrow.Rule.Slice.PartMut.{Post-is}
+use Rattle.lent.specs.Bytes.{put, bytes}
+use Rattle.lent.proofs.Numbers.{eight_bytes, length_bytes}
 use Rattle.lent.proofs.put_word.Goals as goal
 
 pub returns : goal.returns
+unfolding put
 returns c =
-    c.copy.ensures ∙ ap (put c.args.s.now c.args.at) (c.to_le_bytes.ensures ∙ eight_bytes c.args.x)
+    let a = c.args in
+    let h : a.at ≤ a.at + 8 = omega arith in
+    let e : c.to_le_bytes.result ≡ bytes 8 a.x = c.to_le_bytes.ensures ∙ eight_bytes a.x in
+    rw (Post-is a.at (a.at + 8) a.s.now h, c.copy_from_slice.ensures.after, e, length_bytes)
