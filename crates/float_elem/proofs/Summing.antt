@@ -11,13 +11,25 @@ use borrow.Author.Tests.{ne_eqb}
 use Rattle.std.specs.Prelude.{Ok, Err}
 use Rattle.modes.specs.Answers.{refusal, none}
 use Rattle.modes.specs.declared.Reason.TheVariants.{NotFinite}
+use Rattle.products.specs.Apply.{applied}
+use Rattle.products.specs.declared.Blocked.{Blocked}
+use Rattle.products.specs.declared.ApplyResult.TheVariants.{Zero}
+use Rattle.products.proofs.Outcomes.{gone_where_zero}
 use Rattle.products.proofs.Changes.{elsewhere}
 use Rattle.modes.specs.Refusals.{first_refusal, need, unless}
 use Rattle.modes.proofs.FirstRefusals.{first_starts, first_goes, first_stays}
+use Rattle.float_elem.specs.declared.Complex64.{Complex64}
 use Rattle.float_elem.specs.Sums.{plus_zero, added_float, joined, sum_to}
 use Rattle.float_elem.specs.Elements.{all_finite, sum_at, sum_refusal, summed}
 
--- ---- a term that changes other modes than those in which bra and ket differ
+-- ---- a term that is blocked on the ket, or changes other modes than those in which bra and ket differ
+
+zero : (bra ket cre ann : ℕ) (c x : Float) {b : Blocked} → Zero b ≡ applied cre ann ket → x ≡ joined bra ket cre ann c x
+zero bra ket cre ann c x e = sym (ap (added_float bra c x) (gone_where_zero cre ann ket (sym e)))
+
+pub joined_zero : (bra ket cre ann : ℕ) (c x : Complex64) {b : Blocked} → Zero b ≡ applied cre ann ket
+    → (x.re ≡ joined bra ket cre ann c.re x.re) × (x.im ≡ joined bra ket cre ann c.im x.im)
+joined_zero bra ket cre ann c x e = (zero bra ket cre ann c.re x.re e, zero bra ket cre ann c.im x.im e)
 
 joined_elsewhere : (bra ket cre ann : ℕ) (c x : Float) → cre < 2 ^ 64 → ann < 2 ^ 64 → (bit_xor cre ann ≡ bit_xor bra ket → ⊥)
     → x ≡ joined bra ket cre ann c x

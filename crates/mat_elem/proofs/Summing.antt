@@ -11,6 +11,10 @@ use borrow.Author.Tests.{eq-eqb, ne_eqb}
 use Rattle.modes.specs.Sums.{sum_of}
 use Rattle.modes.specs.declared.Term.{Term}
 use Rattle.products.specs.Operators.{adds, part, element}
+use Rattle.products.specs.Apply.{applied}
+use Rattle.products.specs.declared.Blocked.{Blocked}
+use Rattle.products.specs.declared.ApplyResult.TheVariants.{Zero}
+use Rattle.products.proofs.Outcomes.{gone_where_zero}
 use Rattle.products.proofs.Changes.{elsewhere}
 use Rattle.record.specs.Terms.{weight}
 use Rattle.record.specs.Reading.{At}
@@ -18,6 +22,10 @@ use Rattle.integers.proofs.SignedNumbers.{abs_sum}
 use Rattle.mat_elem.specs.Passing.{passed}
 
 -- ---- one term
+
+-- it is blocked on the ket
+pub part_zero : (bra ket : ℕ) (t : Term) {b : Blocked} → Zero b ≡ applied t.cre t.ann ket → pos 0 ≡ part bra ket t
+part_zero bra ket t e = sym (ap (adds bra t.coeff) (gone_where_zero t.cre t.ann ket (sym e)))
 
 -- it changes other modes than those in which bra and ket differ
 part_elsewhere : (bra ket : ℕ) (t : Term) → t.cre < 2 ^ 64 → t.ann < 2 ^ 64 → (bit_xor t.cre t.ann ≡ bit_xor bra ket → ⊥) → part bra ket t ≡ pos 0

@@ -101,7 +101,7 @@ fn put_in(half: &mut [u8; HALF], a: &[u8]) -> Result<usize, Refusal>
     place_in(half, a)
 }
 
-// The one way to refuse a get: the output wiped whole.
+// The one way to refuse a get: the output wiped whole. `lent::refuse` answers what was written, a get its length.
 fn refuse(out: &mut [u8], refusal: Refusal) -> Result<usize, Refusal>
     ensures { (result ≡ Err refusal) × (out.new ≡ zeros (length out.old)) }
 {
