@@ -41,7 +41,7 @@ pub fn put_field(s: &mut [u8], at: usize, n: u64, end: u8) -> usize
     last + 1
 }
 
-// The number itself, or one above the ceiling where it is larger.
+// The number itself, or one above the ceiling where it is larger: a number, since what is too large is judged by whoever sums it.
 pub fn up_to(n: u64) -> u64
     ensures { (result ≡ up_to n) × (result ≤ 2 ^ 60 + 1) }
 {

@@ -76,7 +76,7 @@ fn survey(s: &[u8]) -> Result<Figures, Refusal>
     Ok(survey_terms(&terms))
 }
 
-// Has every term as many creations as annihilations?
+// Has every term as many creations as annihilations? This and the two below are three of zixy's names, each one figure of a walk.
 pub fn conserves_particle_number(s: &[u8]) -> Result<bool, Refusal>
     ensures { result ≡ conserves_of (read_as 1 s.now) }
 {

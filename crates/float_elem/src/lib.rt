@@ -30,7 +30,8 @@ fn are_finite(z: Complex64) -> bool
     z.re.is_finite() && z.im.is_finite()
 }
 
-// Number 1: the mode count and the lengths of the lists.
+// Number 1: the mode count and the lengths of the lists. They are four slices as the C interface lends them, here and below: a
+// struct of them would be made for three private functions.
 #[tactic(auto, unfolding(crate::specs::Elements::listed))]
 fn is_listed(m: u64, cre: &[u64], ann: &[u64], re: &[f64], im: &[f64]) -> bool
     ensures { result ≡ listed m cre.now ann.now (re.now ∷ im.now ∷ []) }

@@ -166,7 +166,7 @@ fn combine(sign: Sign, a: &[u8], b: &[u8], out: &mut [u8]) -> Result<Written, Re
     Ok(write_sum(sign, &left, &right, out, p.modes, t.terms))
 }
 
-// The record of the sum.
+// The record of the sum. This and the difference are two of zixy's names for `combine`.
 pub fn add(a: &[u8], b: &[u8], out: &mut [u8]) -> Result<Written, Refusal>
     ensures { Gives (added (length out.old) (read_as 1 a.now) (read_as 2 b.now)) result out.new }
 {

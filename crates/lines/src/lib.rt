@@ -22,7 +22,7 @@ pub struct ReadCoefficient {
 }
 
 // A line read: whether all its modes are below the number asked, how many ladders it has, and the magnitude of its
-// coefficient, as far as one above the ceiling.
+// coefficient, as far as one above the ceiling. `inside` is no test of the others, which stand either way.
 #[derive(Clone, Copy)]
 pub struct ReadLine {
     pub inside: bool,

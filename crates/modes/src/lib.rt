@@ -169,7 +169,7 @@ pub struct Written {
     pub branches: u64,
 }
 
-// How many modes the word holds.
+// How many modes the word holds. This and `lowest_mode` are std's, with a promise in the documents' words.
 pub fn modes_in(word: u64) -> u64
     ensures { (result ≡ count 64 (bit word)) × (result ≤ 64) }
 {

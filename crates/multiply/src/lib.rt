@@ -73,7 +73,7 @@ fn multiply(
     finish(w, work)
 }
 
-// The record of the product a b.
+// The record of the product a b. This and the two below are three of zixy's names for `multiply`.
 pub fn mul(a: &[u8], b: &[u8], work: &mut [u8], out: &mut [u8]) -> Result<Written, Refusal>
     ensures { Leaves (product_of (length work.old) (length out.old) (read_as 1 a.now) (read_as 2 b.now)) result out.new (length work.old) work.new }
 {

@@ -36,7 +36,7 @@ pub struct Checked {
     pub weight: u64,
 }
 
-// Where a stretch of bytes begins, and how many there are.
+// Where a stretch of bytes begins, and how many there are. The C face tells both, and zeros for none.
 #[derive(Clone, Copy)]
 pub struct Stretch {
     pub start: usize,
@@ -59,7 +59,7 @@ pub fn modes_of(s: &[u8]) -> u64
     lent::half(s, 4) as u64
 }
 
-// The number of terms that a header tells.
+// The number of terms that a header tells. Each reader of a header names one field of the stored format.
 pub fn count_of(s: &[u8]) -> usize
     requires { 32 ≤ length s.now }
     ensures { result ≡ count_of s.now }
@@ -146,7 +146,7 @@ pub fn column_places(n: usize) -> Places
     }
 }
 
-// The i-th of n terms.
+// The i-th of n terms. It reads at numbers and not by `column_places`: by these the check lost that a term fits its bytes.
 fn read_term(s: &[u8], n: usize, i: usize) -> Term
     requires { Holds s.now n × (i < n) }
     ensures { At (terms_in s.now n) i result }
@@ -354,7 +354,8 @@ fn put_header(out: &mut [u8], m: u64, n: usize)
     lent::put_half(out, 28, 0);
 }
 
-// The k-th of n terms to its place. Whatever writes a record writes its terms by this, and then finishes it.
+// The k-th of n terms to its place. Whatever writes a record writes its terms by this, and then finishes it. It takes bytes and
+// no `Terms`, since what is written is no record until then.
 pub fn put_term(out: &mut [u8], n: usize, k: usize, t: Term)
     requires { Holds out.old n × (k < n) }
     ensures { terms_in out.new n ≡ set (terms_in out.old n) k t }

@@ -18,7 +18,7 @@ const FIRST: usize = 512;
 // No record is shorter.
 const SHORTEST: usize = 32;
 
-// Where the record that slot i's entry names begins.
+// Where the record that slot i's entry names begins. A slot is a number below 16, since shelf judges the caller's number first.
 pub fn place_of(h: &[u8; HALF], i: usize) -> usize
     requires { i < 16 }
     ensures { (result ≡ place_of h.now i) × (result < 2 ^ 32) }
@@ -129,7 +129,8 @@ fn end_met(h: &[u8; HALF], p: usize, n: usize) -> Option<usize>
     None
 }
 
-// The lowest place with room for n bytes: what meets a record can begin no earlier than past it.
+// The lowest place with room for n bytes: what meets a record can begin no earlier than past it. A `while let`, since each step
+// goes on past what was met.
 pub fn gap_for(h: &[u8; HALF], n: usize) -> Option<usize>
     requires { (is_whole h.now ≡ true) × (0 < n) × (n < 2 ^ 32) }
     ensures { MatchOption result (gap_for h.now n ≡ 32768) (λ p. (p ≡ gap_for h.now n) × (p < 32768)) }

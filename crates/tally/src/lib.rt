@@ -143,7 +143,8 @@ fn tally_terms(
     })
 }
 
-// The check of a record, and the terms and weights of its ranks, counted from zeros. They tell nothing where it is refused.
+// The check of a record, and the terms and weights of its ranks, counted from zeros. They tell nothing where it is refused. The columns
+// are two, as the report has them.
 #[tactic(auto, using(crate::proofs::Tallying::header_there))]
 pub fn tally_record(
     s: &[u8],

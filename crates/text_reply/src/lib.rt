@@ -22,7 +22,8 @@ pub const ROOM: usize = record::LONGEST;
 // The work of an import: 48 bytes for each of 65,536 parts of lines.
 const WORK: usize = 48 * 65536;
 
-// The mode count that a word names, as far as one above the ceiling: 0, which no record has, where it is no number.
+// The mode count that a word names, as far as one above the ceiling: 0, which no record has, where it is no number: the import judges
+// all mode counts alike.
 #[tactic(auto, unfolding(crate::specs::TextReplies::modes_in))]
 fn modes_in(word: &[u8]) -> u64
     ensures { result ≡ up_to (modes_in word.now) }
