@@ -1,16 +1,16 @@
--- `record::is_before` meets its contract: the order of pairs is the order of terms.
-use Rattle.std.proofs.Common.{◌≡◌, ℕ, Bool, Some, ◌||◌, ◌&&◌, eqb, ltb, arith}
-use Rattle.std.specs.Ordering.{nat_cmp, partial_ordering_then, is_some_and, is_lt}
-use Rattle.std.proofs.lemmas.Grind.{common_steps}
+-- `record::is_before` meets its contract: annihilations first, then creations.
+use borrow.Author.Tests.{lt-ltb, le-ltb, eq-eqb, ne_eqb}
 use Rattle.record.specs.Terms.{before}
 use Rattle.record.proofs.is_before.Goals as goal
 
-by_parts : (a b c d : ℕ) (r : Bool) → r ≡ is_some_and is_lt (partial_ordering_then (Some (nat_cmp a b)) (Some (nat_cmp c d)))
-    → r ≡ ltb a b || (eqb a b && ltb c d)
-by_parts a b c d r h = grind (arith, common_steps)
+pub returns-then-t-u : goal.returns-then-t-u
+unfolding before
+returns-then-t-u c = rw (lt-ltb _ _ c.if-t-u.true)
+
+pub returns-then-t-u-2 : goal.returns-then-t-u-2
+unfolding before
+returns-then-t-u-2 c = rw (le-ltb _ _ c.if-t-u.false, ne_eqb _ _ c.if-t-u-2.true)
 
 pub returns : goal.returns
 unfolding before
-returns c =
-    let a = c.args in
-    by_parts a.t.ann a.u.ann a.t.cre a.u.cre _ c.lt.ensures
+returns c = rw (le-ltb _ _ c.if-t-u.false, eq-eqb _ _ c.if-t-u-2.false)
