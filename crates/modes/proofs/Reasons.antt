@@ -2,6 +2,7 @@
 use mathlib.Core.Path.{◌≡◌, refl, sym, ap, ◌∙◌}
 use mathlib.Core.Bool.{cond}
 use Prim.Native.Nat.{ℕ}
+use native.Mathlib.Omega.{arith}
 use lib.Dec.{eqb}
 use Rattle.modes.specs.Reasons.{number_of}
 use Rattle.modes.specs.declared.Reason.{Reason}
@@ -59,3 +60,10 @@ back NoSuchSlot = refl
 
 pub one_reason : (r s : Reason) → number_of r ≡ number_of s → r ≡ s
 one_reason r s e = sym (back r) ∙ ap reason_at e ∙ back s
+
+-- and none of them is 0
+pub numbered : (r : Reason) → number_of r ≡ 0 → ⊥
+unfolding reason_at
+numbered r e =
+    let last : r ≡ NoSuchSlot = sym (back r) ∙ ap reason_at e in
+    omega (arith, e, ap number_of last)

@@ -14,7 +14,7 @@ use Rattle.decimals.specs.Decimal.{field}
 use Rattle.decimals.specs.Stores.{Stored}
 use Rattle.decimals.proofs.Reading.{field_apart}
 use Rattle.decimals.proofs.Stores.{stored_join, stored_inside, front_taken}
-use Rattle.reply.specs.Lines.{refused_word, refused_line, line_in}
+use Rattle.reply.specs.Lines.{refused_word, line_of_numbers, refused_line, line_in}
 use Rattle.reply.specs.Replies.{Says}
 
 -- the word and the three fields, one after the other
@@ -47,14 +47,18 @@ module _ (out : List ℕ) (r : Refusal) (line line' : List ℕ) (n : ℕ) (g : S
       rw (le-leb (length text) (length out) (omega (arith, is_length)))
       (record { len = is_length; bytes = f ∙ ap₂ {C = List ℕ} (λ (x : List ℕ) (k : ℕ). x ++ zeros k) front (ap₂ (λ (x y : ℕ). x - y) same is_length) })
 
+-- a line of three numbers tells them
+pub numbers_one : (n n' o o' p p' : ℕ) → line_of_numbers n o p ≡ line_of_numbers n' o' p' → (n ≡ n') × (o ≡ o') × (p ≡ p')
+numbers_one n n' o o' p p' e =
+    let number = field_apart n n' 32 (field o 32 ++ field p 10) (field o' 32 ++ field p' 10) (omega arith) (ap (drop 8) e) in
+    let operand = field_apart o o' 32 (field p 10) (field p' 10) (omega arith) number.1 in
+    let place = field_apart p p' 10 [] [] (omega arith) (ap (λ (l : List ℕ). l ++ []) operand.1) in
+    (number.0, operand.0, place.0)
+
 -- THE LINE of a refusal tells its number, operand and place
 pub line_one : (r s : Refusal) → refused_line r ≡ refused_line s → r ≡ s
 unfolding refused_line
 line_one r s e =
-    let number =
-    field_apart (number_of r.reason) (number_of s.reason) 32 (field r.operand 32 ++ field r.place 10) (field s.operand 32 ++ field s.place 10) (omega arith)
-    (ap (drop 8) e) in
-    let operand = field_apart r.operand s.operand 32 (field r.place 10) (field s.place 10) (omega arith) number.1 in
-    let place = field_apart r.place s.place 10 [] [] (omega arith) (ap (λ (l : List ℕ). l ++ []) operand.1) in
-    let reason = one_reason r.reason s.reason number.0 in
-    λ i. record { reason = reason i; operand = operand.0 i; place = place.0 i }
+    let (number, operand, place) = numbers_one (number_of r.reason) (number_of s.reason) r.operand s.operand r.place s.place e in
+    let reason = one_reason r.reason s.reason number in
+    λ i. record { reason = reason i; operand = operand i; place = place i }

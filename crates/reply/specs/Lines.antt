@@ -8,9 +8,13 @@ use Rattle.decimals.specs.Decimal.{field}
 abbrev pub refused_word : List ℕ
 refused_word = 114 ∷ 101 ∷ 102 ∷ 117 ∷ 115 ∷ 101 ∷ 100 ∷ 32 ∷ []
 
--- its number, operand and place, with spaces between them
+-- it and three numbers, with spaces between them
+abbrev pub line_of_numbers : ℕ → ℕ → ℕ → List ℕ
+line_of_numbers number operand place = refused_word ++ (field number 32 ++ (field operand 32 ++ field place 10))
+
+-- those of a refusal are its number, operand and place
 unfoldable pub refused_line : Refusal → List ℕ
-refused_line r = refused_word ++ (field (number_of r.reason) 32 ++ (field r.operand 32 ++ field r.place 10))
+refused_line r = line_of_numbers (number_of r.reason) r.operand r.place
 
 -- left out where it is longer than an output of `room` bytes
 unfoldable pub line_in : ℕ → Refusal → List ℕ

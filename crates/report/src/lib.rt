@@ -9,6 +9,9 @@ ghost use Rattle.report.specs.Steps.{Grown, Mergeable, Merged, Countable, Accept
 use modes::{Reason, Refusal};
 use record::Checked;
 
+// A report's numbers: two counts, the share of all terms, the largest weight, and a share for each rank.
+const NUMBERS: usize = 201;
+
 // Where the share of all terms stands in a report, the largest weight, and the share of rank 0. A share is three numbers:
 // terms, and the high and the low of their weight.
 const TOTAL: usize = 2;
@@ -47,8 +50,7 @@ fn is_within(report: &[u64], at: usize) -> bool
 
 // Are the shares of all ranks?
 #[tactic(auto, unfolding(crate::specs::Reports::all_within))]
-fn ranks_within(report: &[u64]) -> bool
-    requires { length report.now ≡ 201 }
+fn ranks_within(report: &[u64; NUMBERS]) -> bool
     ensures { result ≡ all_within (report_in report.now).rank 65 }
 {
     let mut all = true;
@@ -59,8 +61,7 @@ fn ranks_within(report: &[u64]) -> bool
 }
 
 // May a record more be counted? The two counts are not added, as their sum might not fit.
-fn is_open(report: &[u64]) -> bool
-    requires { length report.now ≡ 201 }
+fn is_open(report: &[u64; NUMBERS]) -> bool
     ensures { result ≡ is_open (report_in report.now) }
 {
     if MOST_RECORDS <= report[0] {
@@ -113,8 +114,7 @@ fn count_accepted(report: &mut [u64], c: Checked, terms: &[u64; 65], weights: &[
 
 // The record `a` counted into the 201 numbers of a report, which is judged first. What is answered where it is taken is the
 // record's own judgement.
-fn count_record(a: &[u8], report: &mut [u64]) -> Result<Result<(), Refusal>, Refusal>
-    requires { length report.old ≡ 201 }
+fn count_record(a: &[u8], report: &mut [u64; NUMBERS]) -> Result<Result<(), Refusal>, Refusal>
     ensures { Counts report.old (read_as 1 a.now) result report.new }
 {
     if !is_open(report) {
@@ -136,7 +136,7 @@ fn count_record(a: &[u8], report: &mut [u64]) -> Result<Result<(), Refusal>, Ref
 
 // The record `a` counted into the report: refused where the report is, and else whether the record was accepted, or its own
 // refusal.
-pub fn add(a: &[u8], report: &mut [u64; 201]) -> Result<Result<(), Refusal>, Refusal>
+pub fn add(a: &[u8], report: &mut [u64; NUMBERS]) -> Result<Result<(), Refusal>, Refusal>
     ensures { Counts report.old (read_as 1 a.now) result report.new }
 {
     count_record(a, report)

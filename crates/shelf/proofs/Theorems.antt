@@ -10,15 +10,15 @@ use Rattle.std.specs.Prelude.{Ok, Err}
 use Rattle.modes.specs.Answers.{none}
 use Rattle.modes.specs.Every.{Every, none as nothing, more}
 use Rattle.lent.specs.Bytes.{zeros}
-use Rattle.slots.specs.Half.{is_whole, free_slot, gap_for}
+use Rattle.slots.specs.Half.{length_of, is_whole, free_slot, gap_for}
 use Rattle.slots.proofs.Wholes.{slot_free, room_so, gap_room}
 use Rattle.slots.proofs.Kept.{byte_same, bytes_here, entry_here, held_place, dropped_free, zeros_whole}
 use Rattle.slots.proofs.Lowest.{slots_below, none_free, all_used, some_free, rooms_below, no_room, no_gap_is, gap_starts}
 use Rattle.slots.specs.Gaps.{Clean}
 use Rattle.slots.proofs.Clean.{zeros_clean}
-use Rattle.shelf.specs.Requests.{Request, Put, Get, Drop, Slot, Done, Outcome, no_such_party, no_free_slot, no_gap, unchanged, room_of, put_refusal, on_half}
+use Rattle.shelf.specs.Requests.{Request, Put, Get, Drop, Slot, Length, Done, Outcome, no_such_party, no_free_slot, no_gap, unchanged, room_of, put_refusal, on_half}
 use Rattle.shelf.specs.Steps.{Call, Clear, By, half_of, shelf_refusal, step}
-use Rattle.shelf.specs.Outcomes.{number_of, gotten, Ready, Full, Crowded, Placed, Dropped}
+use Rattle.shelf.specs.Outcomes.{number_of, slot_in, gotten, Ready, Full, Crowded, Placed, Dropped}
 use Rattle.shelf.specs.Placing.{Placeable}
 use Rattle.shelf.specs.Runs.{run, after_all, Whole, spares}
 use Rattle.shelf.proofs.Halves.{half_size, half_zeros, put_same, taken_shelf}
@@ -28,7 +28,6 @@ use Rattle.shelf.proofs.Told.{one_refuses, heard, unrefused, refused, step_undam
 use Rattle.shelf.proofs.Numbers.{twenty, twenty_one}
 use Rattle.shelf.proofs.OnHalf.{accepted_put, put_change, get_keeps, drop_change, whole_kept, clean_kept}
 use Rattle.shelf.proofs.Held.{Held, put_held, held_on, get_held}
-use Rattle.shelf.proofs.Unique.{slot_one}
 use Rattle.shelf.proofs.TwoRuns.{either_step, step_length, own_half, half_left}
 
 -- ---- calls that change nothing
@@ -118,14 +117,30 @@ pub record Holds (p i : ℕ) (a s : List ℕ) : Type 0 where
   pub size : length s ≡ 65536
   pub held : Held (half_of p s) i a
 
+-- WHAT IS ANSWERED, where nothing refuses: by a put the lowest free slot, by a get the length of what the slot holds, by a drop nothing more
+pub put_tells : (p : ℕ) (a s : List ℕ) → number_of (step (By p (Put a)) s) ≡ 0 → (step (By p (Put a)) s).answer ≡ Ok (Slot (free_slot (half_of p s)))
+put_tells p a s ok = (unrefused p (Put a) s ok).tells
+
+pub get_tells : (p i room : ℕ) (s : List ℕ) → number_of (step (By p (Get i room)) s) ≡ 0
+    → (step (By p (Get i room)) s).answer ≡ Ok (Length (length_of (half_of p s) i))
+get_tells p i room s ok = (unrefused p (Get i room) s ok).tells
+
+pub drop_tells : (p i : ℕ) (s : List ℕ) → number_of (step (By p (Drop i)) s) ≡ 0 → (step (By p (Drop i)) s).answer ≡ Ok Done
+drop_tells p i s ok = (unrefused p (Drop i) s ok).tells
+
+-- the slot that a put names
+slot_told : (p : ℕ) (a s : List ℕ) → number_of (step (By p (Put a)) s) ≡ 0 → slot_in (step (By p (Put a)) s).answer ≡ free_slot (half_of p s)
+slot_told p a s ok = ap slot_in (put_tells p a s ok)
+
 -- A PUT that is not refused leaves its bytes in the slot that it names
-pub put_holds : (p : ℕ) (a s : List ℕ) (i : ℕ) → (step (By p (Put a)) s).answer ≡ Ok (Slot i) → Holds p i a (step (By p (Put a)) s).bytes
-put_holds p a s i ok =
-    let d = unrefused p (Put a) s (Slot i) ok in
+pub put_holds : (p : ℕ) (a s : List ℕ) → number_of (step (By p (Put a)) s) ≡ 0
+    → Holds p (slot_in (step (By p (Put a)) s).answer) a (step (By p (Put a)) s).bytes
+put_holds p a s ok =
+    let d = unrefused p (Put a) s ok in
     record {
       party = d.low;
       size = step_length (By p (Put a)) s ∙ d.size;
-      held = rw (slot_one _ _ d.is, own_half p (Put a) s d.low d.size)
+      held = rw (slot_told p a s ok, own_half p (Put a) s d.low d.size)
           (put_held (half_of p s) a (half_size p s d.low d.size) d.fine);
     }
 
@@ -152,20 +167,20 @@ get_holds p i a s room o fits =
     ∙ rw (get_held (half_of p s) i a room o.held fits, put_same p s o.party o.size)
 
 -- KEPT: what a put took is got, byte for byte, whatever either party did in between but a clear and this party's drop of its slot
-pub get_after_put : (s : List ℕ) (p : ℕ) (a : List ℕ) (cs : List Call) (room i : ℕ) (o : Outcome) → o ≡ step (By p (Put a)) s → o.answer ≡ Ok (Slot i)
-    → Every (λ c. spares p i c ≡ true) cs
+pub get_after_put : (s : List ℕ) (p : ℕ) (a : List ℕ) (cs : List Call) (room : ℕ) (o : Outcome) → o ≡ step (By p (Put a)) s → number_of o ≡ 0
+    → Every (λ c. spares p (slot_in o.answer) c ≡ true) cs
     → length a ≤ room
-    → step (By p (Get i room)) (after_all o.bytes cs) ≡ gotten a room (after_all o.bytes cs)
-get_after_put s p a cs room i o is ok spared fits =
-    let put = put_holds p a s i (ap (λ (q : Outcome). q.answer) (sym is) ∙ ok) in
-    get_holds p i a _ room (holds_all p i a cs o.bytes spared (rw is put)) fits
+    → step (By p (Get (slot_in o.answer) room)) (after_all o.bytes cs) ≡ gotten a room (after_all o.bytes cs)
+get_after_put s p a cs room o is ok spared fits =
+    let put = put_holds p a s (ap number_of (sym is) ∙ ok) in
+    get_holds p _ a _ room (holds_all p (slot_in o.answer) a cs o.bytes spared (rw is put)) fits
 
 -- ---- what is dropped is gone
 
 -- DROPPED: a drop that is not refused leaves no byte of the record and none of its entry, and all else as it was (the other half too, by `other_half`)
-pub dropped_gone : (p i : ℕ) (s : List ℕ) → (step (By p (Drop i)) s).answer ≡ Ok Done → Dropped (half_of p s) (half_of p (step (By p (Drop i)) s).bytes) i
+pub dropped_gone : (p i : ℕ) (s : List ℕ) → number_of (step (By p (Drop i)) s) ≡ 0 → Dropped (half_of p s) (half_of p (step (By p (Drop i)) s).bytes) i
 dropped_gone p i s ok =
-    let d = unrefused p (Drop i) s Done ok in
+    let d = unrefused p (Drop i) s ok in
     let u = slot_used (half_of p s) i d.fine in
     let c = drop_change (half_of p s) i d.fine (half_size p s d.low d.size) in
     rw (own_half p (Drop i) s d.low d.size) (record {
@@ -240,11 +255,11 @@ half_placed h a size z =
     }
 
 -- THE LOWEST OF EACH: a put that is not refused takes the lowest free slot, and the lowest place with room
-pub placed_lowest : (p : ℕ) (a s : List ℕ) (i : ℕ) → (step (By p (Put a)) s).answer ≡ Ok (Slot i)
-    → Placed (half_of p s) (half_of p (step (By p (Put a)) s).bytes) i a
-placed_lowest p a s i ok =
-    let d = unrefused p (Put a) s (Slot i) ok in
-    rw (slot_one _ _ d.is, own_half p (Put a) s d.low d.size) (half_placed (half_of p s) a (half_size p s d.low d.size) d.fine)
+pub placed_lowest : (p : ℕ) (a s : List ℕ) → number_of (step (By p (Put a)) s) ≡ 0
+    → Placed (half_of p s) (half_of p (step (By p (Put a)) s).bytes) (slot_in (step (By p (Put a)) s).answer) a
+placed_lowest p a s ok =
+    let d = unrefused p (Put a) s ok in
+    rw (slot_told p a s ok, own_half p (Put a) s d.low d.size) (half_placed (half_of p s) a (half_size p s d.low d.size) d.fine)
 
 -- ---- nothing is left in the gaps
 

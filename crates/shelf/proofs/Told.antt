@@ -8,7 +8,8 @@ use Rattle.std.specs.Prelude.{Ok, Err}
 use Rattle.modes.specs.declared.Refusal.{Refusal}
 use Rattle.modes.specs.Answers.{Verdict, none, number_in}
 use Rattle.modes.specs.Refusals.{or_else, unless, answered}
-use Rattle.modes.proofs.Refusals.{or_second, neither, by_verdict, unless_not, unless_so, either_way, first_refuses, not_refused, refused_by}
+use Rattle.modes.proofs.Reasons.{numbered}
+use Rattle.modes.proofs.Refusals.{or_second, neither, by_verdict, unless_not, unless_so, either_way, first_refuses, refused_by}
 use Rattle.slots.specs.Half.{length_of, is_whole, free_slot}
 use Rattle.shelf.specs.Requests.{Request, Put, Get, Drop, Shelved, Slot, Length, Done, Outcome, unchanged, room_of, on_half}
 use Rattle.shelf.specs.Steps.{By, half_of, shelf_refusal, in_shelf, step}
@@ -29,6 +30,11 @@ number_answered : {A : Type 0} (v : Verdict) (x : A) → number_in (answered v x
 unfolding unless
 number_answered (Ok t) x = refl
 number_answered (Err r) x = refl
+
+-- a refusal has a number, so what has none is not refused
+no_number : (v : Verdict) → number_in v ≡ 0 → v ≡ none
+no_number (Ok t) e = refl
+no_number (Err r) e = absurd (numbered r.reason e)
 
 -- ---- a half
 
@@ -79,19 +85,20 @@ module _ (p : ℕ) (q : Request) (s : List ℕ) where
       record { low = low; size = size; told = both.1 }
 
   -- a call that is not refused
-  pub record Unrefused (x : Shelved) : Type 0 where
+  pub record Unrefused : Type 0 where
     pub low : p < 2
     pub size : length s ≡ 65536
     pub fine : refusal_on q (half_of p s) ≡ none
-    pub is : x ≡ shelved_by q (half_of p s)
+    pub tells : (step (By p q) s).answer ≡ Ok (shelved_by q (half_of p s))
 
-  -- NOT REFUSED: a put tells the lowest free slot, a get the length of what the slot holds
-  pub unrefused : (x : Shelved) → (step (By p q) s).answer ≡ Ok x → Unrefused x
-  unrefused x e =
-      let found = not_refused (shelved_by q (half_of p s)) _ x (sym e ∙ step_answers) in
-      let both = neither (shelf_refusal p (length s)) (refusal_on q (half_of p s)) found.0 in
+  -- NOT REFUSED: a put tells the lowest free slot, a get the length of what the slot holds, and a drop nothing more
+  pub unrefused : number_of (step (By p q) s) ≡ 0 → Unrefused
+  unrefused e =
+      let all = or_else (shelf_refusal p (length s)) (refusal_on q (half_of p s)) in
+      let none_at_all = no_number all (sym step_number ∙ e) in
+      let both = neither (shelf_refusal p (length s)) (refusal_on q (half_of p s)) none_at_all in
       let (low, size) = taken_shelf p (length s) both.0 in
-      record { low = low; size = size; fine = both.1; is = found.1 }
+      record { low = low; size = size; fine = both.1; tells = step_answers ∙ unless_not all Err (Ok (shelved_by q (half_of p s))) none_at_all }
 
   -- REFUSED: by what refuses party and shelf, or else the request of the half
   pub refused : (r : Refusal) → (step (By p q) s).answer ≡ Err r → or_else (shelf_refusal p (length s)) (refusal_on q (half_of p s)) ≡ Err r

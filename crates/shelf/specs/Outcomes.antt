@@ -1,16 +1,24 @@
 -- What the theorems say of outcomes: 20 and 21, where a record is put, what is got, and what a drop leaves.
-use Rattle.std.specs.Prelude.{◌≡◌, true, false, List, ◌++◌, ℕ, ◌*◌, ◌-◌, ◌<◌, length, get_or, take, drop, Ok}
+use Rattle.std.specs.Prelude.{◌≡◌, true, false, List, ◌++◌, ℕ, ◌*◌, ◌-◌, ◌<◌, length, get_or, take, drop, Result, Ok, Err}
+use Rattle.modes.specs.declared.Refusal.{Refusal}
 use Rattle.modes.specs.Answers.{none, number_in}
 use Rattle.lent.specs.Bytes.{zeros}
 use Rattle.record.specs.Refusals.{refusal_of}
 use Rattle.slots.specs.Half.{place_of, length_of, is_free, is_whole, is_room}
 use Rattle.slots.specs.Gaps.{Outside, Starts}
-use Rattle.shelf.specs.Requests.{Outcome, Length, record_in}
+use Rattle.shelf.specs.Requests.{Shelved, Slot, Length, Done, Outcome, record_in}
 use Rattle.shelf.specs.Steps.{half_of}
 
 -- the number of what refuses a call, and 0 where nothing does
 abbrev pub number_of : Outcome → ℕ
 number_of o = number_in o.answer
+
+-- the slot that a put names, and 0 where none is named
+abbrev pub slot_in : Result Shelved Refusal → ℕ
+slot_in (Ok (Slot i)) = i
+slot_in (Ok (Length n)) = 0
+slot_in (Ok Done) = 0
+slot_in (Err r) = 0
 
 -- nothing that comes before 20 and 21 refuses a put: there is such a party, the shelf has its length, the half is not damaged and the record is accepted
 pub record Ready (p : ℕ) (s a : List ℕ) : Type 0 where
