@@ -10,7 +10,7 @@ use modes::{Reason, Refusal};
 use record::Checked;
 
 // A report's numbers: two counts, the share of all terms, the largest weight, and a share for each rank.
-const NUMBERS: usize = 201;
+pub const NUMBERS: usize = 201;
 
 // Where the share of all terms stands in a report, the largest weight, and the share of rank 0. A share is three numbers:
 // terms, and the high and the low of their weight.
