@@ -67,13 +67,10 @@ fn count_by_digits(word: u64, at: u64) -> u32
 {
     let mut left = word;
     let mut count: u32 = 0;
-    let mut weight: u32 = 1;
-    // a `while`, since the weight doubles
-    while weight < 64 {
+    for k in 0..6u32 {
         let odd = odd_before(left);
-        count += weight * u64::count_ones(at & odd);
+        count += (1 << k) * u64::count_ones(at & odd);
         left &= odd;
-        weight *= 2;
     }
     count
 }
