@@ -37,7 +37,7 @@ use record::Checked;
 fn flag(b: bool) -> u64
     ensures { result ≡ cond b 1 0 }
 {
-    if b { 1 } else { 0 }
+    u64::from(b)
 }
 
 // the answer of a call: five numbers of its value, or the refusal's three

@@ -94,7 +94,7 @@ pub fn next(sign: Sign, a: &Terms, i: usize, b: &Terms, j: usize) -> Step
 fn kept(size: u64) -> usize
     ensures { (result ≡ cond (eqb size 0) 0 1) × (result ≤ 1) }
 {
-    if size == 0 { 0 } else { 1 }
+    usize::from(size != 0)
 }
 
 // The result's terms counted and weighed, with nothing written.
