@@ -310,12 +310,44 @@ def the_library_of_this_repository():
         return hashlib.sha256(file.read()).hexdigest()
 
 
+def twins(*arguments):
+    run = subprocess.run(["python3", f"{ROOT}/tools/twins.py", *arguments], cwd="/", capture_output=True, text=True)
+    return run.returncode, run.stdout, run.stderr
+
+
+def functions_alike_are_told_and_others_are_not():
+    """Two functions that differ in names, a type and a number; one that names a thing twice where they name two; an empty file."""
+    with tempfile.TemporaryDirectory() as top:
+        for crate, text in (
+            ("one", "fn first(a: u64, b: u64) -> u64\n    ensures { result ≡ a + b }\n{\n    a + b * 2\n}\n"),
+            ("two", "// as before\npub fn second(x: u32, y: u32) -> u32 {\n    x + y * 7\n}\nfn third(x: u32, y: u32) -> u32 {\n    x + x * 7\n}\n"),
+            ("three", ""),
+        ):
+            os.makedirs(f"{top}/crates/{crate}/src")
+            with open(f"{top}/crates/{crate}/src/lib.rt", "w", encoding="utf-8") as file:
+                file.write(text)
+        told = twins("1", top)
+        none = twins("2", top)
+    wanted = (0, "one::first two::second\n1 groups of 2 functions\n", "")
+    return [f"told {told}"] * (told != wanted) + [f"told {none}"] * (none != (0, "0 groups of 0 functions\n", ""))
+
+
+def a_tree_without_crates_and_a_word_for_a_number_are_told():
+    with tempfile.TemporaryDirectory() as top:
+        empty = twins("1", top)
+    word = twins("few")
+    return [f"told {empty}"] * (empty != (1, "", f"tools/twins.py: {top} has no crates\n")) + [f"told {word}"] * (
+        word[:2] != (1, "") or "[LINES [FOLDER]]" not in word[2]
+    )
+
+
 TESTS = [
     a_proof_that_fails_leaves_the_library, a_link_that_fails_leaves_the_library, a_build_replaces_the_library_and_says_which,
     what_is_built_is_not_built_again, what_rt_ci_has_proved_is_not_proved_again, nothing_is_a_link, a_library_that_was_changed_is_built_again, a_tree_that_was_moved_names_its_own_library,
     a_library_under_the_loaders_name_and_a_relative_path, it_shows_what_it_does_while_it_does_it, without_rt_a_sentence_says_so, without_gcc_a_sentence_says_so,
     without_an_argument_a_sentence_says_how, help_is_given, a_program_that_is_not_there, the_arguments_are_the_programs,
-    every_script_can_be_read_by_its_shell,
+    every_script_can_be_read_by_its_shell, functions_alike_are_told_and_others_are_not,
+    a_tree_without_crates_and_a_word_for_a_number_are_told,
 ]
 
 
