@@ -5,7 +5,7 @@ use mathlib.Core.List.{List}
 use Prim.Native.Nat.{ℕ, ◌+◌, ◌≤◌}
 use lib.ListN.{length, drop}
 use Rattle.modes.proofs.Unique.{one}
-use Rattle.lines.specs.Reading.{front, ladder_made, ladder_read, coefficient_made, coefficient_read, line_read}
+use Rattle.lines.specs.Reading.{front, ladder_made, ladder_read, coefficient_made, coefficient_read, line_made, line_read}
 use Rattle.lines.specs.declared.ReadLadder.{ReadLadder}
 use Rattle.lines.specs.declared.ReadCoefficient.{ReadCoefficient}
 use Rattle.lines.specs.declared.ReadLine.{ReadLine}
@@ -26,6 +26,9 @@ module _ (l : List ℕ) where
 
   pub one_coefficient : (r s : Option ReadCoefficient) → r ≡ coefficient_read l → s ≡ coefficient_read l → r ≡ s
   one_coefficient r s = one
+
+  pub one_line_made : (m : ℕ) (r s : ReadLine) → r ≡ line_made m l → s ≡ line_made m l → r ≡ s
+  one_line_made m r s = one
 
   pub one_line : (m : ℕ) (r s : Option ReadLine) → r ≡ line_read m l → s ≡ line_read m l → r ≡ s
   one_line m r s = one

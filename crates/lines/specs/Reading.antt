@@ -36,12 +36,22 @@ coefficient_made l = record { sign = record { 0 = is_minus l }; magnitude = up_t
 abbrev pub coefficient_read : List ℕ → Option ReadCoefficient
 coefficient_read l = cond (is_number (magnitude_of l)) (Some (coefficient_made l)) None
 
+-- the ladders that any fields make
+abbrev pub ladders_made : ℕ → List (List ℕ) → ReadLadders
+ladders_made m ls = record { inside = all_below m (map ladder_of ls); count = length ls }
+
 -- the ladders of a line, where all fields are ladders
 abbrev pub ladders_read : ℕ → List (List ℕ) → Option ReadLadders
-ladders_read m ls = cond (all_ladders ls) (Some (record { inside = all_below m (map ladder_of ls); count = length ls })) None
+ladders_read m ls = cond (all_ladders ls) (Some (ladders_made m ls)) None
+
+-- the line that any bytes make
+abbrev pub line_made : ℕ → List ℕ → ReadLine
+line_made m l = record {
+  inside = all_below m (line_of l).ladders;
+  ladders = length (line_of l).ladders;
+  magnitude = up_to (nat_abs (line_of l).coeff);
+}
 
 -- a line, where the bytes are one
 abbrev pub line_read : ℕ → List ℕ → Option ReadLine
-line_read m l =
-    cond (is_line l)
-    (Some (record { inside = all_below m (line_of l).ladders; ladders = length (line_of l).ladders; magnitude = up_to (nat_abs (line_of l).coeff) })) None
+line_read m l = cond (is_line l) (Some (line_made m l)) None

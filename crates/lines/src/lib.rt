@@ -3,7 +3,8 @@
 
 ghost use Rattle.std.specs.Prelude.{◌≡◌, ◌&&◌, ◌||◌, ◌+◌, ◌≤◌, ◌<◌, ◌^◌, eqb, ltb, length, drop};
 ghost use Rattle.lines.specs.Grammar.{space, creates, annihilates, is_minus, magnitude_of};
-ghost use Rattle.lines.specs.Reading.{front, rest, ladder_made, ladder_read, coefficient_made, coefficient_read, ladders_read, line_read};
+ghost use Rattle.lines.specs.Reading.{front, rest, ladder_made, ladder_read, coefficient_made, coefficient_read};
+ghost use Rattle.lines.specs.Reading.{ladders_made, ladders_read, line_made, line_read};
 
 use modes::Sign;
 
@@ -145,6 +146,25 @@ fn one_more(x: ReadLadders, ladder: ReadLadder, m: u64) -> ReadLadders
     }
 }
 
+// The ladders that the fields of a line make, after a coefficient that ends at `at`.
+fn ladders_of(line: &[u8], at: usize, m: u64) -> ReadLadders
+    requires { (at ≤ length line.now) × (m ≤ 64) }
+    ensures { result ≡ ladders_made m (rest space (drop at line.now)) }
+{
+    let mut x = ReadLadders {
+        inside: true,
+        count: 0,
+    };
+    let mut end = at;
+    // a `while`, for each step ends where `piece_end` finds the field's end
+    while end < line.len() {
+        let from = end + 1;
+        end = piece_end(line, from, b' ');
+        x = one_more(x, ladder_of(&line[from..end]), m);
+    }
+    x
+}
+
 // The ladders of a line whose coefficient ends at `at`.
 fn read_ladders(line: &[u8], at: usize, m: u64) -> Option<ReadLadders>
     requires { (at ≤ length line.now) × (m ≤ 64) }
@@ -162,6 +182,21 @@ fn read_ladders(line: &[u8], at: usize, m: u64) -> Option<ReadLadders>
         x = one_more(x, read_ladder(&line[from..end])?, m);
     }
     Some(x)
+}
+
+// The line that any bytes make, with modes below m.
+pub fn line_of(line: &[u8], m: u64) -> ReadLine
+    requires { m ≤ 64 }
+    ensures { result ≡ line_made m line.now }
+{
+    let end = piece_end(line, 0, b' ');
+    let c = coefficient_of(&line[..end]);
+    let x = ladders_of(line, end, m);
+    ReadLine {
+        inside: x.inside,
+        ladders: x.count,
+        magnitude: c.magnitude,
+    }
 }
 
 // Any bytes as a line, with modes below m.
