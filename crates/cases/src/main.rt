@@ -47,13 +47,23 @@ fn print_tally(rt: &impl Print, title: &str, t: Tally) -> io::Result<()> {
     println!(rt; "")
 }
 
+// The number that a hexadecimal digit stands for. Any other byte stands for one too, so that every line has numbers.
+fn digit(b: u8) -> u64 {
+    if b'a' <= b {
+        return ((b - b'a') as u64 + 10) % 16;
+    }
+    (b % 16) as u64
+}
+
 // Field k of a line: 16 hexadecimal digits, after the letter of the line's kind and a space before each field.
-fn field(line: &[u8; 104], k: usize) -> Option<u64>
+fn field(line: &[u8; 104], k: usize) -> u64
     requires { k < 6 }
 {
-    let start = 2 + 17 * k;
-    let digits = str::from_utf8(&line[start..start + 16]).ok()?;
-    u64::from_str_radix(digits, 16).ok()
+    let mut x: u64 = 0;
+    for i in 0..16 {
+        x = x % 0x1000_0000_0000_0000 * 16 + digit(line[2 + 17 * k + i]) % 16;
+    }
+    x
 }
 
 // Does {cre|ann} on ket give the word and the sign (outcome 1), or Zero (outcome 0)?
@@ -140,21 +150,20 @@ fn numbered_words() -> Tally {
         .with(applies(3, 0, 0, 1, 3, 0))
 }
 
-// Does the code agree with a stored line? None where the line's fields are no numbers.
-fn stored_apply(line: &[u8; 104]) -> Option<bool> {
-    Some(applies(
-        field(line, 0)?,
-        field(line, 1)?,
-        field(line, 2)?,
-        field(line, 3)?,
-        field(line, 4)?,
-        field(line, 5)?,
-    ))
+fn stored_apply(line: &[u8; 104]) -> bool {
+    applies(
+        field(line, 0),
+        field(line, 1),
+        field(line, 2),
+        field(line, 3),
+        field(line, 4),
+        field(line, 5),
+    )
 }
 
-fn stored_count(line: &[u8; 104]) -> Option<bool> {
-    let count = products::count_before_each_set_bit(field(line, 0)?, field(line, 1)?);
-    Some(u64::from(count) == field(line, 2)?)
+fn stored_count(line: &[u8; 104]) -> bool {
+    let count = products::count_before_each_set_bit(field(line, 0), field(line, 1));
+    u64::from(count) == field(line, 2)
 }
 
 // Reads the stored answers, at most 100,000 lines, and prints how those of each kind came out, and the lines of none.
@@ -170,8 +179,8 @@ fn print_stored(rt: &(impl Input + Print)) -> io::Result<()> {
             break;
         }
         match line[0] {
-            b'a' if read == 104 => applied = applied.with(stored_apply(&line) == Some(true)),
-            b'c' if read == 104 => counted = counted.with(stored_count(&line) == Some(true)),
+            b'a' if read == 104 => applied = applied.with(stored_apply(&line)),
+            b'c' if read == 104 => counted = counted.with(stored_count(&line)),
             _ => unknown = unknown.with(false),
         }
     }
