@@ -3,7 +3,7 @@ use mathlib.Core.Path.{◌≡◌}
 use mathlib.Core.List.{List, ◌++◌}
 use Prim.Native.Nat.{ℕ, ◌-◌, ◌^◌, ◌<◌}
 use lib.ListN.{length, take}
-use Rattle.std.specs.Prelude.{Result}
+use Rattle.std.specs.Prelude.{Result, Err}
 use Rattle.modes.specs.declared.Term.{Term}
 use Rattle.modes.specs.declared.Refusal.{Refusal}
 use Rattle.modes.specs.declared.Written.{Written}
@@ -40,6 +40,11 @@ one_wiped l m k = one
 
 pub one_wiped_from : (l : List ℕ) (from : ℕ) (m k : List ℕ) → m ≡ take from l ++ zeros (length l - from) → k ≡ take from l ++ zeros (length l - from) → m ≡ k
 one_wiped_from l from m k = one
+
+-- of any refusal, as `refuse` promises it
+pub one_refusal : {T E : Type 0} (room : ℕ) (f : E) (r s : Result T E) (x y : List ℕ) → (r ≡ Err f) × (x ≡ zeros room) → (s ≡ Err f) × (y ≡ zeros room)
+    → (r ≡ s) × (x ≡ y)
+one_refusal room f r s x y g h = (one g.0 h.0, one g.1 h.1)
 
 pub one_refused : (room : ℕ) (f : Refusal) (r s : Result Written Refusal) (x y : List ℕ) → Gives (refused_output room f) r x → Gives (refused_output room f) s y → (r ≡ s) × (x ≡ y)
 one_refused room f r s x y = gives_one

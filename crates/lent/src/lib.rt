@@ -1,12 +1,11 @@
 // Little-endian words and rows in lent bytes, copying and wiping.
 #![tactic(auto)]
 
-ghost use Rattle.std.specs.Prelude.{◌≡◌, ◌++◌, ◌+◌, ◌-◌, ◌≤◌, ◌<◌, ◌^◌, length, take};
+ghost use Rattle.std.specs.Prelude.{◌≡◌, ◌++◌, ◌+◌, ◌-◌, ◌≤◌, ◌<◌, ◌^◌, length, take, Err};
 ghost use Rattle.lent.specs.Bytes.{half_at, word_at, put_half, put_word, zeros, put};
 ghost use Rattle.lent.specs.Rows.{Fit, row_at, put_row};
-ghost use Rattle.lent.specs.Outputs.{Gives, refused_output};
 
-use modes::{Refusal, Term, Written};
+use modes::Term;
 
 // The number of four bytes at `at`.
 pub fn half(s: &[u8], at: usize) -> usize
@@ -96,9 +95,9 @@ pub fn wipe_from(buf: &mut [u8], from: usize)
     wipe(&mut buf[from..]);
 }
 
-// The one way to refuse: the output wiped whole.
-pub fn refuse(out: &mut [u8], refusal: Refusal) -> Result<Written, Refusal>
-    ensures { Gives (refused_output (length out.old) refusal) result out.new }
+// The one way to refuse, whatever the refusal and whatever the call would have told: the output wiped whole.
+pub fn refuse<T, E>(out: &mut [u8], refusal: E) -> Result<T, E>
+    ensures { (result ≡ Err refusal) × (out.new ≡ zeros (length out.old)) }
 {
     wipe(out);
     Err(refusal)

@@ -23,6 +23,7 @@ use Rattle.modes.specs.Answers.{Verdict, refusal}
 use Rattle.record.proofs.Outputs.{written_len}
 use Rattle.lent.specs.Bytes.{zeros}
 use Rattle.lent.specs.Outputs.{Output, Gives, refused_output, filled_output}
+use Rattle.lent.proofs.Outputs.{refused_gives}
 use Rattle.record.specs.Layout.{encode, total_of}
 use Rattle.multiply.specs.Answers.{commutator_of, Leaves}
 use Rattle.reply.specs.Replies.{holds_first, answer_to, text_of, Says, first_of, second_of}
@@ -30,6 +31,11 @@ use Rattle.reply.specs.Lines.{line_in}
 
 pub leaves_as : {o q : Output} {r : Result Written Refusal} {x : List ℕ} {room : ℕ} {w : List ℕ} → o ≡ q → Leaves o r x room w → Leaves q r x room w
 leaves_as {o} {q} {r} {x} {room} {w} e g = subst (λ (y : Output). Leaves y r x room w) e g
+
+-- a refusal, an output of zeros and a work of zeros
+pub refused_leaves : (room held : ℕ) {f : Refusal} {r : Result Written Refusal} {after work : List ℕ}
+    → (r ≡ Err f) × (after ≡ zeros room) × (work ≡ zeros held) → Leaves (refused_output room f) r after held work
+refused_leaves room held e = record { output = refused_gives room (e.0, e.1); clean = e.2 }
 
 module _ (input : List ℕ) where
   pub no_header : length input < 32 → false ≡ holds_first input

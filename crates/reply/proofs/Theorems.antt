@@ -28,7 +28,7 @@ use Rattle.results.specs.Results.{operands_refusal}
 use Rattle.pairs.specs.Products.{all_rows}
 use Rattle.multiply.specs.Answers.{early_refusal, commutator_of}
 use Rattle.multiply.proofs.Theorems.{product_accepted, product_modes, commutator_elements}
-use Rattle.reply.specs.Lines.{refused_line, line_in}
+use Rattle.reply.specs.Lines.{line_of_numbers_in, refused_line, line_in}
 use Rattle.reply.specs.Replies.{first_of, second_of, holds_first, answer_to, told_in, text_of, reply_to, work_size, room_size, Says}
 use Rattle.reply.specs.Reported.{Commutator, Reported, line, result}
 use Rattle.reply.proofs.Replies.{total_decides}
@@ -125,7 +125,7 @@ module _ (work room : ℕ) where
 -- ---- what a reply tells
 
 line_fits : (room : ℕ) (f : Refusal) → length (refused_line f) ≤ room → line_in room f ≡ refused_line f
-unfolding line_in
+unfolding line_in line_of_numbers_in refused_line
 line_fits room f h = rw (le-leb (length (refused_line f)) room h)
 
 module _ (work room : ℕ) (input : List ℕ) where

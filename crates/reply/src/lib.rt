@@ -2,11 +2,11 @@
 // `refused N O P`: all that the program `commutator` decides.
 #![tactic(auto)]
 
-ghost use Rattle.std.specs.Prelude.{◌≡◌, ◌≤◌, length};
-ghost use Rattle.lent.specs.Outputs.{refused_output};
+ghost use Rattle.std.specs.Prelude.{◌≡◌, ◌≤◌, length, Err};
+ghost use Rattle.lent.specs.Bytes.{zeros};
 ghost use Rattle.decimals.specs.Stores.{Stored};
 ghost use Rattle.multiply.specs.Answers.{Leaves};
-ghost use Rattle.reply.specs.Lines.{refused_line, line_in};
+ghost use Rattle.reply.specs.Lines.{line_of_numbers, line_of_numbers_in};
 ghost use Rattle.reply.specs.Replies.{holds_first, answer_to, reply_to, work_size, room_size, Says, Replies};
 
 use modes::{Reason, Refusal, Written};
@@ -23,23 +23,23 @@ pub const LONGEST_INPUT: usize = 2 * ROOM + 1;
 // The longest line: the word with its space, and three numbers of at most 20 digits with a byte after each.
 const LONGEST_LINE: usize = 71;
 
-// The line of a refusal to the front, and its length.
-fn put_line(s: &mut [u8], refusal: Refusal) -> usize
+// The line of three numbers to the front, and its length.
+fn put_line(s: &mut [u8], number: u64, operand: u64, place: u64) -> usize
     requires { 71 ≤ length s.old }
-    ensures { Stored s.old 0 (refused_line refusal) s.new result }
+    ensures { Stored s.old 0 (line_of_numbers number operand place) s.new result }
 {
     lent::copy(s, 0, b"refused ");
-    let first = decimals::put_field(s, 8, refusal.reason.number(), b' ');
-    let second = decimals::put_field(s, first, refusal.operand, b' ');
-    decimals::put_field(s, second, refusal.place, b'\n')
+    let first = decimals::put_field(s, 8, number, b' ');
+    let second = decimals::put_field(s, first, operand, b' ');
+    decimals::put_field(s, second, place, b'\n')
 }
 
-// The line of a refusal, and zeros past it; all zeros where the line is longer than the output.
-pub fn tell(out: &mut [u8], refusal: Refusal) -> usize
-    ensures { Says (line_in (length out.old) refusal) (length out.old) result out.new }
+// The line of three numbers, as a refusal has them, and zeros past it; all zeros where the line is longer than the output.
+pub fn tell(out: &mut [u8], number: u64, operand: u64, place: u64) -> usize
+    ensures { Says (line_of_numbers_in (length out.old) number operand place) (length out.old) result out.new }
 {
     let mut line = [0u8; LONGEST_LINE];
-    let len = put_line(&mut line, refusal);
+    let len = put_line(&mut line, number, operand, place);
     if out.len() < len {
         lent::wipe(out);
         return 0;
@@ -59,9 +59,9 @@ fn holds_first(input: &[u8]) -> bool
     record::total(input) <= input.len()
 }
 
-// A refusal before any call that is lent the work: both are wiped here.
-pub fn refuse(work: &mut [u8], out: &mut [u8], refusal: Refusal) -> Result<Written, Refusal>
-    ensures { Leaves (refused_output (length out.old) refusal) result out.new (length work.old) work.new }
+// A refusal, whatever it is, before any call that is lent the work: both are wiped here.
+pub fn refuse<E>(work: &mut [u8], out: &mut [u8], refusal: E) -> Result<Written, E>
+    ensures { (result ≡ Err refusal) × (out.new ≡ zeros (length out.old)) × (work.new ≡ zeros (length work.old)) }
 {
     lent::wipe(work);
     lent::refuse(out, refusal)
@@ -90,7 +90,7 @@ pub fn commutator(input: &[u8], work: &mut [u8], out: &mut [u8]) -> usize
 {
     match answer(input, work, out) {
         Ok(written) => written.len,
-        Err(refusal) => tell(out, refusal),
+        Err(refusal) => tell(out, refusal.reason.number(), refusal.operand, refusal.place),
     }
 }
 

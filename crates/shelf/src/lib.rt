@@ -1,8 +1,7 @@
 // One shelf for two parties: records put, got and dropped, each party in its own half, and the shelf cleared.
 #![tactic(auto)]
 
-ghost use Rattle.std.specs.Prelude.{◌≡◌, Ok, Err, [], length};
-ghost use Rattle.lent.specs.Bytes.{zeros};
+ghost use Rattle.std.specs.Prelude.{◌≡◌, Ok, [], length};
 ghost use Rattle.shelf.specs.Requests.{Put, Get, Drop, Slot, Length, Done, on_half, tells, Leaves};
 ghost use Rattle.shelf.specs.Placing.{start_of, used_slot, Placeable};
 ghost use Rattle.shelf.specs.Steps.{Clear, By, step};
@@ -101,26 +100,18 @@ fn put_in(half: &mut [u8; HALF], a: &[u8]) -> Result<usize, Refusal>
     place_in(half, a)
 }
 
-// The one way to refuse a get: the output wiped whole. `lent::refuse` answers what was written, a get its length.
-fn refuse(out: &mut [u8], refusal: Refusal) -> Result<usize, Refusal>
-    ensures { (result ≡ Err refusal) × (out.new ≡ zeros (length out.old)) }
-{
-    lent::wipe(out);
-    Err(refusal)
-}
-
 // A copy of what slot `slot` holds, with zeros past it. The record is not checked again.
 fn get_in(half: &[u8; HALF], slot: u64, out: &mut [u8]) -> Result<usize, Refusal>
     ensures { Leaves (on_half (Get slot (length out.old)) half.now) (tells Length result) out.new half.now }
 {
     let i = match used_slot(half, slot) {
         Ok(i) => i,
-        Err(refusal) => return refuse(out, refusal),
+        Err(refusal) => return lent::refuse(out, refusal),
     };
     let place = slots::place_of(half, i);
     let len = slots::length_of(half, i);
     if out.len() < len {
-        return refuse(out, Refusal::OUTPUT_TOO_SHORT);
+        return lent::refuse(out, Refusal::OUTPUT_TOO_SHORT);
     }
     lent::copy(out, 0, &half[place..place + len]);
     lent::wipe_from(out, len);
@@ -161,7 +152,7 @@ pub fn get(shelf: &[u8], party: u64, slot: u64, out: &mut [u8]) -> Result<usize,
 {
     let start = match start_of(party, shelf.len()) {
         Ok(start) => start,
-        Err(refusal) => return refuse(out, refusal),
+        Err(refusal) => return lent::refuse(out, refusal),
     };
     let half = shelf[start..start + HALF].as_array().unwrap();
     get_in(half, slot, out)

@@ -48,7 +48,7 @@ pub fn import(word: &[u8], text: &[u8], work: &mut [u8], out: &mut [u8]) -> usiz
 {
     match answer(word, text, work, out) {
         Ok(written) => written.len,
-        Err(refusal) => reply::tell(out, refusal),
+        Err(refusal) => reply::tell(out, refusal.reason.number(), refusal.operand, refusal.place),
     }
 }
 
@@ -58,7 +58,7 @@ pub fn export(a: &[u8], out: &mut [u8]) -> usize
 {
     match text::export(a, out) {
         Ok(written) => written.len,
-        Err(refusal) => reply::tell(out, refusal),
+        Err(refusal) => reply::tell(out, refusal.reason.number(), refusal.operand, refusal.place),
     }
 }
 

@@ -1,10 +1,11 @@
 -- `lincomb::combine` meets its contract: each way out gives what the definition says.
+use Rattle.lent.proofs.Outputs.{refused_gives}
 use Rattle.record.proofs.Outputs.{gives_as}
 use Rattle.lincomb.proofs.Sums.{pair_refused, both_held, both_light, result_refused, room_enough, result_delivered}
 use Rattle.lincomb.proofs.combine.Goals as goal
 
 pub returns-in-Err : goal.returns-in-Err
-returns-in-Err c = let s = c.args in gives_as (pair_refused s.sign.0 _ _ s.out.now _ c.in-Err.ensures) c.refuse.ensures
+returns-in-Err c = let s = c.args in gives_as (pair_refused s.sign.0 _ _ s.out.now _ c.in-Err.ensures) (refused_gives _ c.refuse.ensures)
 
 pub of-left-requires : goal.of-left-requires
 of-left-requires c = (both_held _ _ _ c.in-Ok.ensures).0
@@ -20,7 +21,7 @@ returns-in-Err-verdict c =
     let s = c.args in
     gives_as
     (result_refused s.sign.0 _ _ s.out.now _ c.in-Ok.ensures _ _ c.of-left.ensures c.of-right.ensures _ c.count_terms-t.ensures _ c.in-Err-verdict.ensures)
-    c.refuse-in-Err-verdict.ensures
+    (refused_gives _ c.refuse-in-Err-verdict.ensures)
 
 pub write_sum-requires : goal.write_sum-requires
 write_sum-requires c =

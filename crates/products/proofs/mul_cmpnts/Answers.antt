@@ -5,6 +5,7 @@ use lib.Count.{ones}
 use lib.ListN.{length}
 use borrow.Author.Tests.{not-true, not-false, leb-true, leb-false}
 use Rattle.lent.specs.Outputs.{Output, Gives}
+use Rattle.lent.proofs.Outputs.{refused_gives}
 use Rattle.products.specs.Product.{not_empty}
 use Rattle.products.proofs.Multiplied.{bifurcation_number, empty_is, seven_is}
 use Rattle.products.proofs.mul_cmpnts.Goals as goal
@@ -37,4 +38,4 @@ returns c =
     let tight = leb-false (24 * 2 ^ ones modes.result) (length c.args.out.now) (sym c.rows_fit.ensures ∙ c.if-rows_fit.false) in
     subst (λ (o : Output). Gives o refuse.result refuse.new.out)
     (seven_is c.args.l_cre c.args.l_ann c.args.r_cre c.args.r_ann (length c.args.out.now) full
-    (subst (λ (n : ℕ). length c.args.out.now < 24 * 2 ^ n) number tight)) refuse.ensures
+    (subst (λ (n : ℕ). length c.args.out.now < 24 * 2 ^ n) number tight)) (refused_gives _ refuse.ensures)

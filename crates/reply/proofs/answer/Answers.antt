@@ -3,7 +3,7 @@ use mathlib.Core.Path.{sym, ◌∙◌}
 use native.Mathlib.Omega.{arith}
 use lib.ListN.{length}
 use lib.Seq.{length-take-le}
-use Rattle.reply.proofs.Replies.{leaves_as, header_there, total_there, answer_parts, answer_short}
+use Rattle.reply.proofs.Replies.{leaves_as, refused_leaves, header_there, total_there, answer_parts, answer_short}
 use Rattle.reply.proofs.answer.Goals as goal
 
 pub total-end-requires : goal.total-end-requires
@@ -41,4 +41,4 @@ returns-then-holds_first c =
 pub returns : goal.returns
 returns c =
     leaves_as (answer_short c.args.input.now (sym c.holds_first.ensures ∙ c.if-holds_first.false) (length c.args.work.now)
-    (length c.args.out.now)) c.refuse.ensures
+    (length c.args.out.now)) (refused_leaves _ _ c.refuse.ensures)

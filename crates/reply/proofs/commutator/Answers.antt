@@ -1,5 +1,6 @@
 -- `reply::commutator` meets its contract: the record as it stands, or the line of the refusal.
 use lib.ListN.{length}
+use Rattle.reply.proofs.Lines.{refusal_told}
 use Rattle.reply.proofs.Replies.{answer_shape, record_told, line_told}
 use Rattle.reply.proofs.commutator.Goals as goal
 
@@ -14,4 +15,4 @@ returns-in-Ok c =
 pub returns-in-Err : goal.returns-in-Err
 returns-in-Err c =
     let made = c.in-Err.ensures in
-    record { says = line_told c.answer.auto.out made.output c.tell.ensures; clean = made.clean }
+    record { says = line_told c.answer.auto.out made.output (refusal_told _ c.number.ensures c.tell.ensures); clean = made.clean }

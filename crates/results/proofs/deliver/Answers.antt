@@ -4,6 +4,7 @@ use native.Mathlib.Omega.{arith}
 use lib.ListN.{length}
 use Rattle.modes.specs.Answers.{none}
 use Rattle.lent.specs.Rows.{rows_at}
+use Rattle.lent.proofs.Outputs.{refused_gives}
 use Rattle.record.proofs.Outputs.{refused_late, delivers, gives_as}
 use Rattle.results.proofs.Results.{deliverable}
 use Rattle.results.proofs.Delivering.{verdict_is}
@@ -12,7 +13,8 @@ use Rattle.results.proofs.deliver.Goals as goal
 pub returns-in-Err : goal.returns-in-Err
 returns-in-Err c =
     let judged = verdict_is (length c.args.out.now) c.args.work.now c.args.n _ c.weigh_rows-t.ensures _ c.in-Err.ensures in
-    gives_as (refused_late (length c.args.out.now) c.args.branches none _ c.args.m (rows_at c.args.work.now 0 c.args.n) refl _ judged) c.refuse.ensures
+    gives_as (refused_late (length c.args.out.now) c.args.branches none _ c.args.m (rows_at c.args.work.now 0 c.args.n) refl _ judged)
+    (refused_gives _ c.refuse.ensures)
 
 pub put_rows-requires : goal.put_rows-requires
 put_rows-requires c =

@@ -2,6 +2,7 @@
 use mathlib.Core.Path.{sym}
 use native.Mathlib.Omega.{arith}
 use lib.ListN.{length}
+use Rattle.lent.proofs.Outputs.{refused_gives}
 use Rattle.record.proofs.Outputs.{gives_as}
 use Rattle.text.proofs.Bringing.{early_refused, readable, collectable, delivered}
 use Rattle.text.proofs.bring.Goals as goal
@@ -9,7 +10,7 @@ use Rattle.text.proofs.bring.Goals as goal
 pub returns-in-Err : goal.returns-in-Err
 returns-in-Err c =
     gives_as (early_refused c.args.m (length c.args.work.now) (length c.args.out.now) c.args.text.now _ c.in-Err.ensures)
-    c.refuse.ensures
+    (refused_gives _ c.refuse.ensures)
 
 pub gather-used-requires : goal.gather-used-requires
 gather-used-requires c =

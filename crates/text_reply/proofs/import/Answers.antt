@@ -1,5 +1,6 @@
 -- `text_reply::import` meets its contract: the record as it stands, or the line of the refusal.
 use lib.ListN.{length}
+use Rattle.reply.proofs.Lines.{refusal_told}
 use Rattle.reply.proofs.Replies.{record_told, line_told}
 use Rattle.text_reply.proofs.TextReplies.{import_shape}
 use Rattle.text_reply.proofs.import.Goals as goal
@@ -15,4 +16,4 @@ returns-in-Ok c =
 pub returns-in-Err : goal.returns-in-Err
 returns-in-Err c =
     let made = c.in-Err.ensures in
-    record { says = line_told c.answer.auto.out made.output c.tell.ensures; clean = made.clean }
+    record { says = line_told c.answer.auto.out made.output (refusal_told _ c.number.ensures c.tell.ensures); clean = made.clean }
